@@ -1,0 +1,33 @@
+-- Calls one after the other.
+use Prim.Native.Nat.{ℕ, _+_, _<_}
+use mathlib.Core.Path.{_≡_, sym, _∙_, ap, subst}
+use mathlib.Core.List.{List, [], _∷_, _++_}
+use lib.ListN.{length, getD, take}
+use Rattle.std.proofs.shelf.Lists.{take-more}
+use Rattle.std.specs.declared.result.Result.{Result}
+use Rattle.book.specs.declared.notes.Book.{Book}
+use Rattle.book.specs.declared.refusals.Refusal.{Refusal}
+use Rattle.book.specs.declared.runs.Answer.{Answer}
+use Rattle.book.specs.declared.runs.Call.{Call}
+use Rattle.book.specs.Books.{ledger, Obeys}
+use Rattle.book.specs.Ledgers.{Ledger, empty}
+use Rattle.book.specs.Rules.{Verdict, refused, accepted, left-by}
+use Rattle.book.specs.Runs.{Judged, Leads, Ledger-of}
+
+-- a call that obeys its verdict leaves the ledger that the verdict leaves
+obeyed : {A : Type 0} (v : Verdict A) (r : Result A Refusal) (before after : Book) → Obeys v r before after → ledger after ≡ left-by (ledger before) v
+obeyed (refused t) r before after h = ap ledger (h .1)
+obeyed (accepted a l) r before after h = h .1
+
+-- one call after the others
+leads-on : (from m to : Ledger) (cs : List Call) (c : Call) (v : Verdict Answer) → Leads from cs m → Judged m c v → to ≡ left-by m v → Leads from (cs ++ (c ∷ [])) to
+leads-on from m to [] c v e j t = (v, subst (λ l. Judged l c v) e j, t ∙ ap (λ l. left-by l v) e)
+leads-on from m to (d ∷ cs) c v (w, k, rest) j t = (w, k, leads-on (left-by from w) m to cs c v rest j t)
+
+-- one turn of a run
+pub run-more : (calls : List Call) (i : ℕ) (d : Call) (before after : Book) (r : Result Answer Refusal) → i < length calls
+    → Ledger-of (take i calls) (ledger before) → (v : Verdict Answer) → Judged (ledger before) (getD calls i d) v → Obeys v r before after
+    → Ledger-of (take (i + 1) calls) (ledger after)
+run-more calls i d before after r h led v j o =
+    subst (λ cs. Ledger-of cs (ledger after)) (sym (take-more calls i d h))
+    (leads-on empty (ledger before) (ledger after) (take i calls) (getD calls i d) v led j (obeyed v r before after o))

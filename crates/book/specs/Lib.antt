@@ -1,0 +1,6 @@
+pub mod Rows
+pub mod Ledgers
+pub mod Refusals
+pub mod Rules
+pub mod Books
+pub mod Runs

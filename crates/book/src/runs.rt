@@ -1,0 +1,85 @@
+//! Calls as data, and what a list of them makes of a new book.
+ghost use Prim.Native.Nat.{ℕ};
+ghost use Rattle.book.specs.declared.notes.Book.{Book};
+ghost use Rattle.book.specs.declared.runs.Answer.the-variants.{Number, Done};
+ghost use Rattle.book.specs.Books.{ledger, Obeys};
+ghost use Rattle.book.specs.Rules.{Verdict};
+ghost use Rattle.book.specs.Runs.{answering, Judged, Ledger-of};
+use super::notes::Book;
+use super::refusals::Refusal;
+
+/// A call that changes a book, with its arguments.
+#[derive(Clone, Copy)]
+pub enum Call<'a> {
+    Table {
+        width: usize,
+    },
+    Row {
+        table: usize,
+        cells: &'a [u32],
+        sureness: u64,
+    },
+    Reweigh {
+        row: usize,
+        sureness: u64,
+    },
+    Strike {
+        row: usize,
+    },
+}
+
+/// What an accepted call answers: the number of a table or a row, or only that it is done.
+#[derive(Clone, Copy)]
+pub enum Answer {
+    Number(usize),
+    Done,
+}
+
+impl Book {
+    /// Makes one call.
+    pub fn perform(&mut self, call: Call) -> Result<Answer, Refusal>
+        ensures { λ r. ⌜ ((v : Verdict _) × Judged (ledger (now (self .entry))) (call .entry) v × Obeys v r (now (self .entry)) (now (self .exit))) ⌝ }
+    {
+        match call {
+            Call::Table { width } => numbered(self.table(width)),
+            Call::Row {
+                table,
+                cells,
+                sureness,
+            } => numbered(self.row(table, cells, sureness)),
+            Call::Reweigh { row, sureness } => done(self.reweigh(row, sureness)),
+            Call::Strike { row } => done(self.strike(row)),
+        }
+    }
+
+    /// A new book on which the calls were made, one after the other. A refused call is passed over.
+    pub fn run(calls: &[Call]) -> Book
+        ensures { λ r. ⌜ Ledger-of (now (calls .entry)) (ledger r) ⌝ }
+    {
+        let mut book = Book::new();
+        for call in calls {
+            let _ = book.perform(*call);
+        }
+        book
+    }
+}
+
+// What a call that gives a number answers.
+fn numbered(result: Result<usize, Refusal>) -> Result<Answer, Refusal>
+    ensures { λ r. ⌜ ((v : Verdict ℕ) (before after : Book) → Obeys v result before after → Obeys (answering Number v) r before after) ⌝ }
+{
+    match result {
+        Ok(number) => Ok(Answer::Number(number)),
+        Err(refusal) => Err(refusal),
+    }
+}
+
+// What a call that only does something answers.
+fn done(result: Result<(), Refusal>) -> Result<Answer, Refusal>
+    ensures { λ r. ⌜ ((v : Verdict (Unit {0})) (before after : Book) → Obeys v result before after → Obeys (answering (λ _. Done) v) r before after) ⌝ }
+{
+    match result {
+        Ok(()) => Ok(Answer::Done),
+        Err(refusal) => Err(refusal),
+    }
+}
