@@ -12,7 +12,7 @@ use Rattle.book.specs.declared.notes.Book.{Book}
 use Rattle.book.specs.declared.rows.Row.{Row}
 use Rattle.book.specs.Rows.{absent, new-row}
 use Rattle.book.specs.Books.{ledger}
-use Rattle.book.specs.Ledgers.{Wide, Within, Padded, Lawful-row, Vacant-beyond, width-of, row-of}
+use Rattle.book.specs.Ledgers.{Wide, Within, Padded, Small, Lawful-row, Vacant-beyond, width-of, row-of}
 
 -- what a book keeps, over its fields
 pub record Kept (widths : List ℕ) (tables : ℕ) (rows : List Row) (given : ℕ) : Type 0 where
@@ -20,6 +20,7 @@ pub record Kept (widths : List ℕ) (tables : ℕ) (rows : List Row) (given : �
   pub few : (tables ≤ 8) × (given ≤ 256)
   pub wide : (t : ℕ) → t < tables → Wide (getD widths t 0)
   pub within : (r : ℕ) → r < given → Within tables (getD rows r absent)
+  pub small : (r k : ℕ) → r < given → getD (getD rows r absent .cells) k 0 < 4294967296
   pub padded : (r : ℕ) → r < given → Padded widths (getD rows r absent)
   pub vacant : Vacant-beyond widths tables rows given
 
@@ -29,10 +30,11 @@ pub all-of : {widths : List ℕ} {tables : ℕ} {rows : List Row} {given : ℕ} 
     × (((tables ≤ 8) × (given ≤ 256))
     × (((t : ℕ) → t < tables → Wide (getD widths t 0))
     × (((r : ℕ) → r < given → Within tables (getD rows r absent))
+    × (((r k : ℕ) → r < given → getD (getD rows r absent .cells) k 0 < 4294967296)
     × (((r : ℕ) → r < given → Padded widths (getD rows r absent))
     × (Vacant-beyond widths tables rows given
-    × Unit {0})))))
-all-of k = (k .sized, (k .few, (k .wide, (k .within, (k .padded, (k .vacant, tt))))))
+    × Unit {0}))))))
+all-of k = (k .sized, (k .few, (k .wide, (k .within, (k .small, (k .padded, (k .vacant, tt)))))))
 
 -- what holds of the other entries and of the new one holds of all
 each-set : {A : Type 0} (P : A → Type 0) (xs : List A) (i n : ℕ) (a d : A) → i < length xs → P a
@@ -68,7 +70,8 @@ table-kept b w h wide = record {
   sized = (length-set (b .widths) (b .tables) w ∙ b .sized .0, b .sized .1);
   few = (omega arith, b .few .1);
   wide = each-set Wide (b .widths) (b .tables) (b .tables + 1) w 0 (omega (arith, b .sized .0)) wide (λ t l ne. b .wide t (omega arith));
-  within = λ r l. let x = b .within r l in (omega arith, x .1);
+  within = λ r l. let x = b .within r l in (omega arith, x .1, x .2);
+  small = b .small;
   padded = λ r l.
       let t = getD (b .rows) r absent .table in
       let x = b .within r l .0 in
@@ -91,7 +94,7 @@ by-fields : (b : Book) (row : Row) → Lawful-row (ledger b .widths) row → Wit
 by-fields b row lawful =
     let n = tables-counted b in
     let here : row .table < b .tables = omega (arith, lawful .0 .0) in
-    ((here, lawful .0 .1), rw (getD-take (b .tables) (b .widths) (row .table) 0 here) at (lawful .1))
+    ((here, lawful .0 .1, lawful .0 .2), rw (getD-take (b .tables) (b .widths) (row .table) 0 here) at (lawful .1))
 
 -- each row of a book is lawful
 pub row-lawful : (b : Book) (r : ℕ) → r < length (ledger b .rows) → Lawful-row (ledger b .widths) (row-of (ledger b) r)
@@ -101,7 +104,7 @@ row-lawful b r h =
     let here : r < b .given = omega arith in
     let x = b .within r here in
     let e = getD-take (b .tables) (b .widths) (getD (b .rows) r absent .table) 0 (x .0) in
-    rw (getD-take (b .given) (b .rows) r absent here) (((omega arith, x .1), rw e (b .padded r here)))
+    rw (getD-take (b .given) (b .rows) r absent here) ((omega arith, x .1, x .2), rw e (b .padded r here), λ k. b .small r k here)
 
 pub row-kept : (b : Book) (row : Row) → length (ledger b .rows) < 256 → Lawful-row (ledger b .widths) row → Kept (b .widths) (b .tables) (set (b .rows) (b .given) row) (b .given + 1)
 row-kept b row h lawful =
@@ -113,6 +116,7 @@ row-kept b row h lawful =
       few = (b .few .0, omega arith);
       wide = b .wide;
       within = each-set (Within (b .tables)) (b .rows) (b .given) (b .given + 1) row absent (omega arith) (new .0) (λ r l ne. b .within r (omega arith));
+      small = λ r k l. each-set Small (b .rows) (b .given) (b .given + 1) row absent (omega arith) (lawful .2) (λ q m ne j. b .small q j (omega arith)) r l k;
       padded = each-set (Padded (b .widths)) (b .rows) (b .given) (b .given + 1) row absent (omega arith) (new .1) (λ r l ne. b .padded r (omega arith));
       vacant = (b .vacant .0, vacant-after (b .rows) (b .given) 256 row _ (omega arith) (b .vacant .1));
     }
@@ -128,6 +132,7 @@ change-kept b r row h lawful =
       few = b .few;
       wide = b .wide;
       within = each-set (Within (b .tables)) (b .rows) r (b .given) row absent (omega arith) (new .0) (λ q l ne. b .within q l);
+      small = λ q k l. each-set Small (b .rows) r (b .given) row absent (omega arith) (lawful .2) (λ p m ne j. b .small p j m) q l k;
       padded = each-set (Padded (b .widths)) (b .rows) r (b .given) row absent (omega arith) (new .1) (λ q l ne. b .padded q l);
       vacant = (b .vacant .0, drop-set-lt (b .given) (b .rows) r row (omega arith) ∙ b .vacant .1);
     }

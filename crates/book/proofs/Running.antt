@@ -15,18 +15,18 @@ use Rattle.book.specs.Rules.{Verdict, refused, accepted, left-by}
 use Rattle.book.specs.Runs.{Judged, Leads, Ledger-of}
 
 -- a call that obeys its verdict leaves the ledger that the verdict leaves
-obeyed : {A : Type 0} (v : Verdict A) (r : Result A Refusal) (before after : Book) → Obeys v r before after → ledger after ≡ left-by (ledger before) v
+obeyed : {A : Type 0} (v : Verdict A Ledger) (r : Result A Refusal) (before after : Book) → Obeys ledger v r before after → ledger after ≡ left-by (ledger before) v
 obeyed (refused t) r before after h = ap ledger (h .1)
 obeyed (accepted a l) r before after h = h .1
 
 -- one call after the others
-leads-on : (from m to : Ledger) (cs : List Call) (c : Call) (v : Verdict Answer) → Leads from cs m → Judged m c v → to ≡ left-by m v → Leads from (cs ++ (c ∷ [])) to
+leads-on : (from m to : Ledger) (cs : List Call) (c : Call) (v : Verdict Answer Ledger) → Leads from cs m → Judged m c v → to ≡ left-by m v → Leads from (cs ++ (c ∷ [])) to
 leads-on from m to [] c v e j t = (v, subst (λ l. Judged l c v) e j, t ∙ ap (λ l. left-by l v) e)
 leads-on from m to (d ∷ cs) c v (w, k, rest) j t = (w, k, leads-on (left-by from w) m to cs c v rest j t)
 
 -- one turn of a run
 pub run-more : (calls : List Call) (i : ℕ) (d : Call) (before after : Book) (r : Result Answer Refusal) → i < length calls
-    → Ledger-of (take i calls) (ledger before) → (v : Verdict Answer) → Judged (ledger before) (getD calls i d) v → Obeys v r before after
+    → Ledger-of (take i calls) (ledger before) → (v : Verdict Answer Ledger) → Judged (ledger before) (getD calls i d) v → Obeys ledger v r before after
     → Ledger-of (take (i + 1) calls) (ledger after)
 run-more calls i d before after r h led v j o =
     subst (λ cs. Ledger-of cs (ledger after)) (sym (take-more calls i d h))

@@ -18,10 +18,11 @@ use Rattle.book.specs.Rules.{Verdict, refused, accepted}
 abbrev pub ledger : Book → Ledger
 ledger b = record { widths = take (b .tables) (b .widths); rows = take (b .given) (b .rows) }
 
--- a call obeys the verdict: a refusal that tells just this leaves the whole book as it was; else the answer, and the ledger afterwards
-abbrev pub Obeys : {A : Type 0} → Verdict A → Result A Refusal → (before after : Book) → Type 0
-Obeys (refused t) r before after = ((f : Refusal) × (r ≡ Err f) × (told f ≡ t)) × (after ≡ before)
-Obeys (accepted a l) r before after = (r ≡ Ok a) × (ledger after ≡ l)
+-- A call obeys its verdict: a refusal that tells just this leaves everything as it was; else the call gives the answer, and
+-- what there is afterwards is, seen as the verdict sees it, what the verdict says.
+abbrev pub Obeys : {A S V : Type 0} → (V → S) → Verdict A S → Result A Refusal → (before after : V) → Type 0
+Obeys seen (refused t) r before after = ((f : Refusal) × (r ≡ Err f) × (told f ≡ t)) × (after ≡ before)
+Obeys seen (accepted a s) r before after = (r ≡ Ok a) × (seen after ≡ s)
 
 -- the row with a number, and that it is lawful, where it may be changed; else why not
 abbrev pub Changeable : Ledger → ℕ → Result Row Refusal → Type 0

@@ -27,17 +27,21 @@ row-of l r = getD (l .rows) r absent
 abbrev pub Wide : ℕ → Type 0
 Wide w = (1 ≤ w) × (w ≤ 4)
 
--- a row of one of so many tables, with a sureness of at most a billion
+-- a row of one of so many tables, with a sureness of at most a billion and four cell places
 abbrev pub Within : (tables : ℕ) → Row → Type 0
-Within tables r = (r .table < tables) × (r .sureness ≤ billion)
+Within tables r = (r .table < tables) × (r .sureness ≤ billion) × (length (r .cells) ≡ 4)
 
 -- the row's cell places past its table's width hold 0
 abbrev pub Padded : (widths : List ℕ) → Row → Type 0
 Padded widths r = drop (getD widths (r .table) 0) (r .cells) ≡ replicate (4 - getD widths (r .table) 0) 0
 
+-- a cell has 32 bits
+abbrev pub Small : Row → Type 0
+Small r = (k : ℕ) → getD (r .cells) k 0 < 4294967296
+
 -- a row as a ledger with tables of these widths may have it
 abbrev pub Lawful-row : (widths : List ℕ) → Row → Type 0
-Lawful-row widths r = Within (length widths) r × Padded widths r
+Lawful-row widths r = Within (length widths) r × Padded widths r × Small r
 
 -- the places past the open tables and past the rows given are vacant
 abbrev pub Vacant-beyond : (widths : List ℕ) (tables : ℕ) (rows : List Row) (given : ℕ) → Type 0

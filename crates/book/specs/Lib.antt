@@ -3,4 +3,5 @@ pub mod Ledgers
 pub mod Refusals
 pub mod Rules
 pub mod Books
+pub mod Files
 pub mod Runs

@@ -3,6 +3,7 @@ use Prim.Native.Nat.{ℕ}
 use mathlib.Core.Bool.{true, false}
 use mathlib.Core.List.{List, [], _∷_, _++_}
 use lib.ListN.{length, drop, replicate}
+use Rattle.csv.specs.declared.Row.{Row as FileRow}
 use Rattle.book.specs.declared.rows.Row.{Row}
 
 -- the highest sureness, in billionths
@@ -24,6 +25,10 @@ filled cells = cells ++ drop (length cells) (replicate 4 0)
 -- a row as it is first kept
 abbrev pub new-row : (table : ℕ) (cells : List ℕ) (sureness : ℕ) → Row
 new-row t cs s = record { table = t; cells = filled cs; sureness = s; struck = false }
+
+-- a row of a file as a row of a table
+abbrev pub from-file : (table : ℕ) → FileRow → Row
+from-file t r = record { table = t; cells = r .cells; sureness = r .sureness; struck = false }
 
 -- the same row with another sureness
 abbrev pub reweighed : Row → ℕ → Row

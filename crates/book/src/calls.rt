@@ -12,6 +12,11 @@ use super::rows::Row;
 
 const BILLION: u64 = 1_000_000_000;
 
+const UNSURE: Refusal = Refusal::SurenessTooLarge {
+    record: 0,
+    field: 0,
+};
+
 impl Book {
     /// A new book: 256 vacant row places and no table.
     pub fn new() -> Book
@@ -41,7 +46,7 @@ impl Book {
 
     /// Opens the next table, and answers its number.
     pub fn table(&mut self, width: usize) -> Result<usize, Refusal>
-        ensures { λ r. ⌜ Obeys (table-verdict (ledger (now (self .entry))) width) r (now (self .entry)) (now (self .exit)) ⌝ }
+        ensures { λ r. ⌜ Obeys ledger (table-verdict (ledger (now (self .entry))) width) r (now (self .entry)) (now (self .exit)) ⌝ }
     {
         if width < 1 || width > 4 {
             return Err(Refusal::WidthOutOfRange);
@@ -56,7 +61,7 @@ impl Book {
 
     /// Adds a row to an open table, and answers its number. Rows are numbered over all tables.
     pub fn row(&mut self, table: usize, cells: &[u32], sureness: u64) -> Result<usize, Refusal>
-        ensures { λ r. ⌜ Obeys (row-verdict (ledger (now (self .entry))) table (now (cells .entry)) sureness) r (now (self .entry)) (now (self .exit)) ⌝ }
+        ensures { λ r. ⌜ Obeys ledger (row-verdict (ledger (now (self .entry))) table (now (cells .entry)) sureness) r (now (self .entry)) (now (self .exit)) ⌝ }
     {
         let widths = self.widths();
         if table >= widths.len() {
@@ -66,11 +71,14 @@ impl Book {
             return Err(Refusal::CellsNotWidth);
         }
         if sureness > BILLION {
-            return Err(Refusal::SurenessTooLarge);
+            return Err(UNSURE);
         }
         let number = self.rows().len();
         if number >= 256 {
-            return Err(Refusal::RowsUsedUp);
+            return Err(Refusal::RowsUsedUp {
+                record: 0,
+                field: 0,
+            });
         }
         self.add_row(Row::new(table, cells, sureness));
         Ok(number)
@@ -78,11 +86,11 @@ impl Book {
 
     /// Gives a row a new sureness.
     pub fn reweigh(&mut self, number: usize, sureness: u64) -> Result<(), Refusal>
-        ensures { λ r. ⌜ Obeys (reweigh-verdict (ledger (now (self .entry))) number sureness) r (now (self .entry)) (now (self .exit)) ⌝ }
+        ensures { λ r. ⌜ Obeys ledger (reweigh-verdict (ledger (now (self .entry))) number sureness) r (now (self .entry)) (now (self .exit)) ⌝ }
     {
         let row = self.unstruck(number)?;
         if sureness > BILLION {
-            return Err(Refusal::SurenessTooLarge);
+            return Err(UNSURE);
         }
         self.replace(number, Row { sureness, ..row });
         Ok(())
@@ -90,7 +98,7 @@ impl Book {
 
     /// Takes a row out of all joins. Its number is never given again.
     pub fn strike(&mut self, number: usize) -> Result<(), Refusal>
-        ensures { λ r. ⌜ Obeys (strike-verdict (ledger (now (self .entry))) number) r (now (self .entry)) (now (self .exit)) ⌝ }
+        ensures { λ r. ⌜ Obeys ledger (strike-verdict (ledger (now (self .entry))) number) r (now (self .entry)) (now (self .exit)) ⌝ }
     {
         let row = self.unstruck(number)?;
         self.replace(
@@ -119,7 +127,7 @@ impl Book {
     }
 
     // Gives a table the next number.
-    fn add_table(&mut self, width: usize)
+    pub(super) fn add_table(&mut self, width: usize)
         requires room { ⌜ length (ledger (now self) .widths) < 8 ⌝ }
         requires lawful { ⌜ Wide width ⌝ }
         ensures { λ _. ⌜ ledger (now (self .exit)) ≡ with-table (ledger (now (self .entry))) width ⌝ }
@@ -129,7 +137,7 @@ impl Book {
     }
 
     // Gives a row the next number.
-    fn add_row(&mut self, row: Row)
+    pub(super) fn add_row(&mut self, row: Row)
         requires room { ⌜ length (ledger (now self) .rows) < 256 ⌝ }
         requires lawful { ⌜ Lawful-row (ledger (now self) .widths) row ⌝ }
         ensures { λ _. ⌜ ledger (now (self .exit)) ≡ with-rows (ledger (now (self .entry))) (ledger (now (self .entry)) .rows ++ (row ∷ [])) ⌝ }

@@ -1,6 +1,8 @@
 //! A book of survey tables: its rows by number, each with how sure the observer was, and the calls that change it.
 mod calls;
+mod files;
 mod notes;
+mod records;
 mod refusals;
 mod rows;
 mod runs;

@@ -19,6 +19,7 @@ pub struct Book {
     ghost few: { (tables ≤ 8) × (given ≤ 256) },
     ghost wide: { (t : ℕ) → t < tables → Wide (getD widths t 0) },
     ghost within: { (r : ℕ) → r < given → Within tables (getD rows r absent) },
+    ghost small: { (r k : ℕ) → r < given → getD (getD rows r absent .cells) k 0 < 4294967296 },
     ghost padded: { (r : ℕ) → r < given → Padded widths (getD rows r absent) },
     ghost vacant: { Vacant-beyond widths tables rows given },
 }

@@ -3,6 +3,8 @@ ghost use Prim.Native.Nat.{ℕ};
 ghost use Rattle.book.specs.declared.notes.Book.{Book};
 ghost use Rattle.book.specs.declared.runs.Answer.the-variants.{Number, Done};
 ghost use Rattle.book.specs.Books.{ledger, Obeys};
+ghost use Rattle.book.specs.Files.{Load-judged};
+ghost use Rattle.book.specs.Ledgers.{Ledger};
 ghost use Rattle.book.specs.Rules.{Verdict};
 ghost use Rattle.book.specs.Runs.{answering, Judged, Ledger-of};
 use super::notes::Book;
@@ -26,6 +28,9 @@ pub enum Call<'a> {
     Strike {
         row: usize,
     },
+    Load {
+        file: &'a [u8],
+    },
 }
 
 /// What an accepted call answers: the number of a table or a row, or only that it is done.
@@ -38,7 +43,7 @@ pub enum Answer {
 impl Book {
     /// Makes one call.
     pub fn perform(&mut self, call: Call) -> Result<Answer, Refusal>
-        ensures { λ r. ⌜ ((v : Verdict _) × Judged (ledger (now (self .entry))) (call .entry) v × Obeys v r (now (self .entry)) (now (self .exit))) ⌝ }
+        ensures { λ r. ⌜ ((v : Verdict _ _) × Judged (ledger (now (self .entry))) (call .entry) v × Obeys ledger v r (now (self .entry)) (now (self .exit))) ⌝ }
     {
         match call {
             Call::Table { width } => numbered(self.table(width)),
@@ -49,7 +54,15 @@ impl Book {
             } => numbered(self.row(table, cells, sureness)),
             Call::Reweigh { row, sureness } => done(self.reweigh(row, sureness)),
             Call::Strike { row } => done(self.strike(row)),
+            Call::Load { file } => self.loaded(file),
         }
+    }
+
+    // `load`, as a call given as data.
+    fn loaded(&mut self, file: &[u8]) -> Result<Answer, Refusal>
+        ensures { λ r. ⌜ ((v : Verdict ℕ Ledger) × Load-judged (ledger (now (self .entry))) (now (file .entry)) v × Obeys ledger (answering Number v) r (now (self .entry)) (now (self .exit))) ⌝ }
+    {
+        numbered(self.load(file))
     }
 
     /// A new book on which the calls were made, one after the other. A refused call is passed over.
@@ -66,7 +79,7 @@ impl Book {
 
 // What a call that gives a number answers.
 fn numbered(result: Result<usize, Refusal>) -> Result<Answer, Refusal>
-    ensures { λ r. ⌜ ((v : Verdict ℕ) (before after : Book) → Obeys v result before after → Obeys (answering Number v) r before after) ⌝ }
+    ensures { λ r. ⌜ ((v : Verdict ℕ Ledger) (before after : Book) → Obeys ledger v result before after → Obeys ledger (answering Number v) r before after) ⌝ }
 {
     match result {
         Ok(number) => Ok(Answer::Number(number)),
@@ -76,7 +89,7 @@ fn numbered(result: Result<usize, Refusal>) -> Result<Answer, Refusal>
 
 // What a call that only does something answers.
 fn done(result: Result<(), Refusal>) -> Result<Answer, Refusal>
-    ensures { λ r. ⌜ ((v : Verdict (Unit {0})) (before after : Book) → Obeys v result before after → Obeys (answering (λ _. Done) v) r before after) ⌝ }
+    ensures { λ r. ⌜ ((v : Verdict (Unit {0}) Ledger) (before after : Book) → Obeys ledger v result before after → Obeys ledger (answering (λ _. Done) v) r before after) ⌝ }
 {
     match result {
         Ok(()) => Ok(Answer::Done),

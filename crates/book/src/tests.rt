@@ -77,3 +77,74 @@ fn changes() -> Result<(), Fail> {
     check(!second.struck && second.sureness == 1_000_000_000)?;
     check(second.cells[0] == 5 && second.cells[3] == 0)
 }
+
+// The number and the places of a refusal, or noughts where the call was accepted.
+fn told(result: Result<usize, Refusal>) -> (usize, usize, usize) {
+    let Err(refusal) = result else {
+        return (0, 0, 0);
+    };
+    let (first, second) = refusal.places();
+    (refusal.number(), first, second)
+}
+
+#[test]
+fn files() -> Result<(), Fail> {
+    let cases: [(&[u8], (usize, usize, usize)); 9] = [
+        (b"stake,sure\r\n7,1\r\n\"\",\"0010\"", (0, 0, 0)),
+        (b"c,sure", (0, 0, 0)),
+        (b"c,sure\r\n1\"2,3", (2, 2, 1)),
+        (b"", (3, 1, 1)),
+        (b"c,sure\r\n1,2\r\n1,2,3\r\n", (4, 3, 3)),
+        (b"c,sure\r\n1,2\r\nx,\r\n", (5, 3, 1)),
+        (b"c,sure\r\n1,4294967296\r\n1,1000000001\r\n", (5, 2, 2)),
+        (b"c,d,sure\r\n1,1,5\r\n1,1,1000000001\r\n", (12, 3, 3)),
+        (b"c,sure\r\n1,1000000000\r\n", (0, 0, 0)),
+    ];
+    for (text, answer) in cases {
+        let mut book = Book::new();
+        check_eq(told(book.load(text)), answer)?;
+    }
+    Ok(())
+}
+
+#[test]
+fn full() -> Result<(), Fail> {
+    let mut book = Book::new();
+    for _ in 0..7 {
+        check_eq(refused(book.table(1)), 0)?;
+    }
+    for _ in 0..254 {
+        check_eq(refused(book.row(0, &[1], 0)), 0)?;
+    }
+    let three = b"c,sure\r\n1,1\r\n2,2\r\n3,3\r\n";
+    check_eq(told(book.load(three)), (13, 4, 1))?;
+    check_eq(refused(book.load(b"c,sure\r\n1,1\r\n2,2\r\n")), 0)?;
+    check_eq(told(book.load(b"c,sure\r\n")), (7, 0, 0))
+}
+
+#[test]
+fn written() -> Result<(), Fail> {
+    let mut book = Book::new();
+    let text = b"stake,day,sure\r\n7,,5\r\n8,9,1000000000\r\n4294967295,1,0\r\n";
+    check_eq(refused(book.load(text)), 0)?;
+    check_eq(refused(book.strike(1)), 0)?;
+    let mut out = [b'.'; 16_384];
+    let mut short = [b'.'; 16_383];
+    check_eq(told(book.write(1, &mut short)), (8, 0, 0))?;
+    check_eq(told(book.write(0, &mut short)), (19, 0, 0))?;
+    check_eq(book.write(0, &mut out).unwrap_or(0), 35)?;
+    check(out.starts_with(b"c1,c2,sure\r\n7,0,5\r\n4294967295,1,0\r\n."))
+}
+
+#[test]
+fn refusals() -> Result<(), Fail> {
+    let refusal = Refusal::GrammarBroken {
+        record: 3,
+        field: 2,
+    };
+    let mut out = [b'.'; 128];
+    let mut short = [b'.'; 127];
+    check_eq(told(refusal.write(&mut short)), (19, 0, 0))?;
+    check_eq(refusal.write(&mut out).unwrap_or(0), 23)?;
+    check(out.starts_with(b"refusal,places\r\n2,3 2\r\n."))
+}

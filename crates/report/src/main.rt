@@ -1,43 +1,53 @@
-//! One survey day in a book: what was found and read, one correction, one row taken out, and one call refused.
+//! Loads the table files of the folder it is run in, `A.csv`, `B.csv` and on to the first that is missing, at most eight, and
+//! prints what the book then holds; at the first refusal it prints the refusal's record instead.
 use book::Book;
-use book::Call;
 use book::Refusal;
 use book::Row;
+use std::fs;
 use std::io;
+use std::io::ErrorKind;
+use std::io::Write;
 
-// The calls of the day: the stakes found (stake), the stakes read (stake, day of the year), the radar lines (line, day of the year).
-fn survey_day() -> [Call<'static>; 17] {
-    [
-        Call::Table { width: 1 },
-        Call::Table { width: 2 },
-        Call::Table { width: 2 },
-        row(0, &[101], 990_000_000),
-        row(0, &[102], 950_000_000),
-        row(0, &[103], 600_000_000),
-        row(0, &[104], 1_000_000_000),
-        row(1, &[101, 231], 980_000_000),
-        row(1, &[102, 231], 900_000_000),
-        row(1, &[103, 231], 500_000_000),
-        row(1, &[104, 232], 970_000_000),
-        row(2, &[7, 231], 1_000_000_000),
-        row(2, &[8, 231], 850_000_000),
-        row(2, &[9, 232], 0),
-        row(2, &[9, 232], 800_000_000),
-        // The second reader confirmed stake 102.
-        Call::Reweigh {
-            row: 5,
-            sureness: 960_000_000,
+const FILES: [&str; 8] = [
+    "A.csv",
+    "B.csv",
+    "C.csv",
+    "D.csv",
+    "E.csv",
+    "F.csv",
+    "G.csv",
+    "H.csv",
+];
+
+// The bytes of a file, or none where it is missing.
+fn read_file(rt: &LibcRuntime, path: &str) -> io::Result<Option<Vec<u8>>> {
+    match fs::read(rt, path) {
+        Ok(bytes) => Ok(Some(bytes)),
+        Err(error) => match error.kind() {
+            ErrorKind::NotFound => Ok(None),
+            _ => Err(error),
         },
-        // Line 9 was entered twice.
-        Call::Strike { row: 10 },
-    ]
+    }
 }
 
-fn row(table: usize, cells: &'static [u32], sureness: u64) -> Call<'static> {
-    Call::Row {
-        table,
-        cells,
-        sureness,
+// Loads the files in order; the first refusal ends it.
+fn load_files(rt: &LibcRuntime, book: &mut Book) -> io::Result<Option<Refusal>> {
+    for path in FILES {
+        let Some(file) = read_file(rt, path)? else {
+            return Ok(None);
+        };
+        if let Err(refusal) = book.load(&file) {
+            return Ok(Some(refusal));
+        }
+    }
+    Ok(None)
+}
+
+fn print_refusal(rt: &LibcRuntime, refusal: Refusal) -> io::Result<()> {
+    let mut out = [0; 128];
+    match refusal.write(&mut out) {
+        Ok(length) => rt.stdout().write_all(out.get(0..length).unwrap_or(&[])),
+        Err(_) => Ok(()),
     }
 }
 
@@ -46,45 +56,26 @@ fn print_row(rt: &LibcRuntime, number: usize, row: &Row, width: usize) -> io::Re
     for cell in row.cells.iter().take(width) {
         print!(rt, " {cell}")?;
     }
-    if row.struck {
-        println!(rt, ", struck")
-    } else {
-        let sureness = row.sureness;
-        println!(rt, ", sure {sureness}")
-    }
+    let sureness = row.sureness;
+    println!(rt, ", sure {sureness}")
 }
 
-fn print_table(
-    rt: &LibcRuntime,
-    book: &Book,
-    name: &str,
-    table: usize,
-    width: usize,
-) -> io::Result<()> {
-    println!(rt, "{name}")?;
-    for (number, row) in book.rows().iter().enumerate() {
-        if row.table == table {
-            print_row(rt, number, row, width)?;
+fn print_book(rt: &LibcRuntime, book: &Book) -> io::Result<()> {
+    for (table, (path, width)) in FILES.iter().zip(book.widths()).enumerate() {
+        println!(rt, "{path}, width {width}")?;
+        for (number, row) in book.rows().iter().enumerate() {
+            if row.table == table {
+                print_row(rt, number, row, *width)?;
+            }
         }
     }
     Ok(())
 }
 
-fn print_refusal(rt: &LibcRuntime, refusal: Refusal) -> io::Result<()> {
-    let number = refusal.number();
-    let [first, second] = refusal.places();
-    println!(rt, "Refused: {number}, places {first} {second}")
-}
-
 fn main(rt: LibcRuntime) -> io::Result<()> {
-    let mut book = Book::run(&survey_day());
-    let names = ["Stakes found", "Stakes read", "Radar lines"];
-    for (table, (name, width)) in names.iter().zip(book.widths()).enumerate() {
-        print_table(&rt, &book, name, table, *width)?;
-    }
-    println!(rt, "Row 3 to 1000000001 billionths")?;
-    match book.reweigh(3, 1_000_000_001) {
-        Ok(()) => println!(rt, "Done"),
-        Err(refusal) => print_refusal(&rt, refusal),
+    let mut book = Book::new();
+    match load_files(&rt, &mut book)? {
+        Some(refusal) => print_refusal(&rt, refusal),
+        None => print_book(&rt, &book),
     }
 }

@@ -1,0 +1,12 @@
+pub mod Back
+pub mod Checks
+pub mod Contents
+pub mod Ending
+pub mod Faults
+pub mod Numbering
+pub mod Reached
+pub mod Reading
+pub mod Runs
+pub mod Through
+pub mod Walking
+pub mod Writing

@@ -1,0 +1,5 @@
+pub mod Grammar
+pub mod Places
+pub mod Steps
+pub mod Tables
+pub mod Written
