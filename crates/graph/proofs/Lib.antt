@@ -1,0 +1,12 @@
+pub mod Bits
+pub mod Tallies
+pub mod Finite
+pub mod Cuts
+pub mod Paths
+pub mod Theorem
+pub mod Above
+pub mod Joining
+pub mod Walking
+pub mod Searching
+pub mod Apart
+pub mod Deciding

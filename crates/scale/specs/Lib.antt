@@ -1,0 +1,4 @@
+pub mod Semirings
+pub mod Cuts
+pub mod Counts
+pub mod Prices
