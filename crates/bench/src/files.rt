@@ -48,7 +48,7 @@ fn measure(rt: &LibcRuntime, file: &[u8]) -> io::Result<(u128, u128, usize)> {
     Ok((reading, copying, held))
 }
 
-pub fn run(rt: &LibcRuntime) -> io::Result<()> {
+pub(crate) fn run(rt: &LibcRuntime) -> io::Result<()> {
     let file = full_size(rt)?;
     let bytes = file.len();
     let (rows, sum) = read(&file);

@@ -149,7 +149,7 @@ impl Trial {
     }
 }
 
-pub fn run(rt: &LibcRuntime) -> io::Result<()> {
+pub(crate) fn run(rt: &LibcRuntime) -> io::Result<()> {
     let trials = [
         Trial::new(
             "parts of a sparse graph",

@@ -2,10 +2,10 @@
 use Prim.Native.Nat.{ℕ, zero, suc, _+_, _-_, _≤_, _<_}
 use native.Mathlib.Nat.{sub-zero, zero-sub, suc-sub-suc}
 use native.Mathlib.Omega.{arith}
-use mathlib.Core.Path.{_≡_, refl, sym, _∙_, ap, subst}
-use mathlib.Core.Logic.{_⊎_, inl, inr, _≢_}
-use mathlib.Core.List.{List, [], _∷_, _++_}
-use lib.ListN.{length, getD, set, take, drop, replicate, length-set}
+use mathlib.Core.Path.{_≡_, sym, _∙_, ap, subst}
+use mathlib.Core.Logic.{inl, inr, _≢_}
+use mathlib.Core.List.{List}
+use lib.ListN.{length, getD, set, drop, replicate, length-set}
 use lib.Seq.{length-take-le, getD-take, getD-set-same, getD-set-other, drop-set-lt, drop-drop, drop-append-seam}
 use Rattle.std.proofs.shelf.Tests.{cases-eq}
 use Rattle.book.specs.declared.notes.Book.{Book}

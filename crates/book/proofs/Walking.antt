@@ -1,9 +1,9 @@
 -- A walk over the rows of a file, row by row.
 use Prim.Native.Nat.{ℕ}
-use mathlib.Core.Path.{_≡_, refl, sym, _∙_, ap, subst}
-use mathlib.Core.List.{List, [], _∷_, _++_, map, append-assoc, append-nil, map-append}
+use mathlib.Core.Path.{_≡_, sym, _∙_, ap, subst}
+use mathlib.Core.List.{List, [], _∷_, _++_, map, append-assoc, map-append}
 use Rattle.std.specs.declared.option.Option.{Option}
-use Rattle.std.specs.declared.option.Option.the-variants.{Some, None}
+use Rattle.std.specs.declared.option.Option.the-variants.{Some}
 use Rattle.csv.specs.declared.Row.{Row}
 use Rattle.csv.specs.declared.Rows.{Rows}
 use Rattle.csv.specs.Grammar.{Values}
@@ -47,12 +47,3 @@ module _ (Q : List Row → Type 0) (from at to : Rows) (passed : Passed Q from a
         h .after,
         subst Q′ (ap (λ r. map row-of (h .done) ++ (r ∷ [])) (h .same) ∙ sym (map-append row-of (h .done) (h .values ∷ []))) (next (map row-of (h .done)) (h .so-far)),
       )
-
-  -- at the end of the walk Q holds of all rows
-  pub passed-all : Steps at None to → (n : ℕ) (records : List Values) → Ahead n from records → Q (map row-of records)
-  passed-all steps n records a =
-      let (done, rest, e, b, q) = passed n records a in
-      subst (λ rs. Q (map row-of rs)) (sym (e ∙ ap (λ rs. done ++ rs) (steps n rest b) ∙ append-nil done)) q
-
-pub passed-none : (Q : List Row → Type 0) (from : Rows) → Q [] → Passed Q from from
-passed-none Q from q n records a = ([], records, refl, a, q)

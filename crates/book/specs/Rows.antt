@@ -1,7 +1,7 @@
 -- Rows as the ledger keeps them.
 use Prim.Native.Nat.{ℕ}
 use mathlib.Core.Bool.{true, false}
-use mathlib.Core.List.{List, [], _∷_, _++_}
+use mathlib.Core.List.{List, [], _++_}
 use lib.ListN.{length, drop, replicate}
 use Rattle.csv.specs.declared.Row.{Row as FileRow}
 use Rattle.book.specs.declared.rows.Row.{Row}

@@ -42,7 +42,7 @@ fn gathered<V: Combine>(nodes: &[Node], values: &[V], kind: Kind, at: usize, siz
 }
 
 /// Works out each and and or, the last node first, so that the children are ready. The rows' values stand at their nodes.
-pub fn fold<V: Combine>(nodes: &[Node], values: &mut [V])
+pub(crate) fn fold<V: Combine>(nodes: &[Node], values: &mut [V])
     requires laid { ⌜ Lays (now nodes) ⌝ }
     requires room { ⌜ length (now nodes) ≤ length (now values) ⌝ }
     ensures worked { λ _. ⌜ ((F : Form) (leaf : ℕ → V·Combine .Meaning) → now (nodes .entry) ≡ laid F → Leaves (V·Combine .mean) leaf (parts F) (now (values .entry)) → Worked (V·Combine .mean) (folded leaf (V·Combine .op)) (parts F) 0 (now (values .exit))) ⌝ }

@@ -14,7 +14,7 @@ use tree::put_inner;
 use tree::put_row;
 
 /// Lays out rows under one node, and answers the place after them.
-pub fn lay_rows(kind: Kind, rows: &[u8], nodes: &mut [Node], at: usize) -> usize
+pub(crate) fn lay_rows(kind: Kind, rows: &[u8], nodes: &mut [Node], at: usize) -> usize
     requires two { ⌜ 2 ≤ length (now rows) ⌝ }
     requires order { ⌜ Ascending (now rows) ⌝ }
     requires few { ⌜ at + 1 + length (now rows) ≤ 511 ⌝ }
@@ -31,7 +31,7 @@ pub fn lay_rows(kind: Kind, rows: &[u8], nodes: &mut [Node], at: usize) -> usize
 }
 
 /// Lays out the worked tree, and answers its number of nodes.
-pub fn lay_worked(nodes: &mut [Node]) -> usize
+pub(crate) fn lay_worked(nodes: &mut [Node]) -> usize
     requires { ⌜ 9 ≤ length (now nodes) ⌝ }
     ensures ends { λ r. ⌜ r ≡ 9 ⌝ }
     ensures laid { λ _. ⌜ now (nodes .exit) ≡ written (now (nodes .entry)) 0 (nodes-of worked) ⌝ }

@@ -1,14 +1,12 @@
-use Prim.Native.Nat.{_+_, _*_, _≤_, _<_}
+use Prim.Native.Nat.{_+_}
 use mathlib.Core.List.{_++_}
-use mathlib.Core.Path.{_≡_, sym, _∙_, ap, subst}
+use mathlib.Core.Path.{sym, _∙_, ap, subst}
 use native.Mathlib.Omega.{arith}
 use borrow.Author.Needs.{needs}
 use lib.ListN.{length, getD, take}
 use lib.Seq.{take-all}
 use Rattle.text.proofs.Writing.{Wrote, wrote-none, wrote-more}
 use Rattle.csv.specs.Written.{row-text}
-use Rattle.book.specs.declared.rows.Row.{Row}
-use Rattle.book.specs.Books.{ledger}
 use Rattle.book.specs.Files.{to-file}
 use Rattle.book.specs.Rows.{absent}
 use Rattle.book.proofs.Filing.{rows-text, rows-text-same, rows-text-more}

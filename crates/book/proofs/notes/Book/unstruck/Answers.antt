@@ -1,4 +1,3 @@
-use mathlib.Core.Path.{sym, ap}
 use borrow.Author.Needs.{needs}
 use Rattle.book.proofs.Keeping.{row-lawful}
 use Rattle.book.proofs.notes.Book.unstruck.Needs as need

@@ -1,11 +1,9 @@
-use Prim.Native.Nat.{_^_, _≤_, _<_}
 use mathlib.Core.List.{[], _∷_, _++_}
 use native.Mathlib.Omega.{arith}
 use borrow.Author.Needs.{needs}
 use lib.Chars.{codes}
-use lib.ListN.{length}
 use Rattle.std.specs.Written.{decimal}
-use Rattle.text.proofs.Writing.{Wrote, wrote-none, wrote-more}
+use Rattle.text.proofs.Writing.{wrote-none, wrote-more}
 use Rattle.book.specs.Refusals.{told}
 use Rattle.book.proofs.Telling.{decimal-short, record-written}
 use Rattle.book.proofs.refusals.Refusal.write.Needs as need
