@@ -24,7 +24,8 @@ use Rattle.csv.proofs.Back.{written-reads-back}
 use Rattle.book.specs.declared.notes.Book.{Book}
 use Rattle.book.specs.declared.rows.Row.{Row}
 use Rattle.book.specs.Books.{ledger, Obeys}
-use Rattle.book.specs.Files.{Loads-back, Sure, rows-written, table-file-verdict, to-file, write-verdict, written?}
+use Rattle.book.specs.Files.{Loads-back, rows-written, table-file-verdict, to-file, write-verdict, written?}
+use Rattle.book.specs.Inner.{Sure}
 use Rattle.book.specs.Ledgers.{Lawful-row, width-of}
 use Rattle.book.specs.Rows.{absent}
 use Rattle.book.proofs.Keeping.{row-lawful, rows-counted, table-wide}

@@ -17,13 +17,16 @@ use Rattle.csv.specs.declared.Row.{Row as FileRow}
 use Rattle.csv.specs.declared.Rows.{Rows}
 use Rattle.csv.specs.declared.TableFile.{TableFile}
 use Rattle.csv.specs.Grammar.{CR, LF, Values, File, last, ended, more}
-use Rattle.csv.specs.Tables.{Ahead, Answer, Answered, Reads, Table, Wrong, cell, row-of}
+use Rattle.csv.specs.Tables.{Ahead, Answer, Reads, Table, Wrong, cell, row-of}
+use Rattle.csv.proofs.Faults.{answered}
+use Rattle.csv.proofs.Reading.{one-reading}
 use Rattle.std.specs.declared.option.Option.the-variants.{Some}
 use Rattle.book.specs.declared.notes.Book.{Book}
 use Rattle.book.specs.declared.refusals.Refusal.{Refusal}
 use Rattle.book.specs.declared.refusals.Refusal.the-variants.{TablesUsedUp, RowsUsedUp}
 use Rattle.book.specs.Books.{ledger, Obeys}
-use Rattle.book.specs.Files.{Fit, Sure, All-sure, Load-judged, unless-unsure, table-file-verdict, with-file}
+use Rattle.book.specs.Files.{Load-judged, unless-unsure, table-file-verdict, with-file}
+use Rattle.book.specs.Inner.{Fit, Sure, All-sure}
 use Rattle.book.specs.Ledgers.{Ledger, Padded, width-of}
 use Rattle.book.specs.Refusals.{at, told, fault-told}
 use Rattle.book.specs.Rows.{billion, from-file}
@@ -195,25 +198,22 @@ module _ (b : Book) (text : List ℕ) (file : TableFile) (read : Answer text (Ok
           })
 
 -- a text with a fault is no table
-apart : (l : Ledger) (text : List ℕ) (result : Result TableFile Fault) → Answered text result → (f : Fault) → Wrong text f
-    → (header : List (List ℕ)) (rows : List Values) → Reads text header rows → Table header rows → ⊥
-apart l text result a f wrong header rows reads table =
-    let p = a .refuses f wrong in
-    let q = a .opens header rows reads table .1 in
+apart : (text : List ℕ) (f : Fault) → Wrong text f → (header : Values) (rows : List Values) → Reads text header rows → Table header rows → ⊥
+apart text f wrong header rows reads table =
+    let q = answered text (Err f) wrong .opens header rows reads table .1 in
     let z : _≡_ {A = ℕ} 0 1 = cc in
     omega arith
 
 -- the rules give one verdict on a file
-pub load-one : (l : Ledger) (text : List ℕ) (result : Result TableFile Fault) → Answered text result → (v w : Verdict ℕ Ledger) → Load-judged l text v → Load-judged l text w → v ≡ w
-load-one l text result a v w (inl (f, x, e)) (inl (g, y, d)) =
-    let p = a .refuses f x in
-    let q = a .refuses g y in
+pub load-one : (l : Ledger) (text : List ℕ) (v w : Verdict ℕ Ledger) → Load-judged l text v → Load-judged l text w → v ≡ w
+load-one l text v w (inl (f, x, e)) (inl (g, y, d)) =
+    let q = answered text (Err f) x .refuses g y in
     let same : f ≡ g = cc in
     e ∙ ap (λ h. refused (fault-told h)) same ∙ sym d
-load-one l text result a v w (inl (f, x, e)) (inr (header, rows, reads, table, d)) = absurd (apart l text result a f x header rows reads table)
-load-one l text result a v w (inr (header, rows, reads, table, d)) (inl (f, x, e)) = absurd (apart l text result a f x header rows reads table)
-load-one l text result a v w (inr (header, rows, reads, table, e)) (inr (header′, rows′, reads′, table′, d)) =
-    let same = a .one (header ∷ rows) (header′ ∷ rows′) (reads .1) (reads′ .1) in
+load-one l text v w (inl (f, x, e)) (inr (header, rows, reads, table, d)) = absurd (apart text f x header rows reads table)
+load-one l text v w (inr (header, rows, reads, table, d)) (inl (f, x, e)) = absurd (apart text f x header rows reads table)
+load-one l text v w (inr (header, rows, reads, table, e)) (inr (header′, rows′, reads′, table′, d)) =
+    let same = one-reading text (header ∷ rows) (header′ ∷ rows′) (reads .1) (reads′ .1) in
     let h : header ≡ header′ = cc in
     let r : rows ≡ rows′ = cc in
     e ∙ ap₂ (λ x y. table-file-verdict l (length x - 1) (map row-of y)) h r ∙ sym d

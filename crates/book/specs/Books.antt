@@ -1,16 +1,11 @@
 -- The ledger of a book, and what a call on a book promises.
-use Prim.Native.Nat.{ℕ, _≤_, _<_}
 use mathlib.Core.Path.{_≡_}
-use mathlib.Core.Bool.{true, false}
-use mathlib.Core.Logic.{_⊎_}
-use lib.ListN.{length, take}
+use lib.ListN.{take}
 use Rattle.std.specs.declared.result.Result.{Result}
 use Rattle.std.specs.declared.result.Result.the-variants.{Ok, Err}
 use Rattle.book.specs.declared.notes.Book.{Book}
 use Rattle.book.specs.declared.refusals.Refusal.{Refusal}
-use Rattle.book.specs.declared.refusals.Refusal.the-variants.{NoSuchRow, RowStruck}
-use Rattle.book.specs.declared.rows.Row.{Row}
-use Rattle.book.specs.Ledgers.{Ledger, Lawful-row, row-of}
+use Rattle.book.specs.Ledgers.{Ledger}
 use Rattle.book.specs.Refusals.{told}
 use Rattle.book.specs.Rules.{Verdict, refused, accepted}
 
@@ -23,8 +18,3 @@ ledger b = record { widths = take (b .tables) (b .widths); rows = take (b .given
 abbrev pub Obeys : {A S V : Type 0} → (V → S) → Verdict A S → Result A Refusal → (before after : V) → Type 0
 Obeys seen (refused t) r before after = ((f : Refusal) × (r ≡ Err f) × (told f ≡ t)) × (after ≡ before)
 Obeys seen (accepted a s) r before after = (r ≡ Ok a) × (seen after ≡ s)
-
--- the row with a number, and that it is lawful, where it may be changed; else why not
-abbrev pub Changeable : Ledger → ℕ → Result Row Refusal → Type 0
-Changeable l number (Ok row) = (number < length (l .rows)) × (row ≡ row-of l number) × (row .struck ≡ false) × Lawful-row (l .widths) row
-Changeable l number (Err f) = ((length (l .rows) ≤ number) × (f ≡ NoSuchRow)) ⊎ ((number < length (l .rows)) × (row-of l number .struck ≡ true) × (f ≡ RowStruck))

@@ -6,21 +6,17 @@ use mathlib.Core.List.{List, [], _∷_, _++_, map}
 use mathlib.Core.Bool.{Bool, not, _&&_}
 use lib.Dec.{eqb, leb, ltb}
 use lib.ListN.{length}
-use Rattle.std.specs.shelf.Lists.{All, kept-by}
-use Rattle.std.specs.declared.result.Result.{Result}
-use Rattle.std.specs.declared.result.Result.the-variants.{Ok, Err}
+use Rattle.std.specs.shelf.Lists.{kept-by}
 use Rattle.csv.specs.declared.Fault.{Fault}
 use Rattle.csv.specs.declared.Row.{Row as FileRow}
-use Rattle.csv.specs.declared.Rows.{Rows}
 use Rattle.csv.specs.Grammar.{Values}
 use Rattle.csv.specs.Written.{table-text}
-use Rattle.csv.specs.Tables.{Reads, Wrong, Table, Ahead, row-of}
+use Rattle.csv.specs.Tables.{Reads, Wrong, Table, row-of}
 use Rattle.text.specs.Over.{over}
 use Rattle.book.specs.declared.rows.Row.{Row}
-use Rattle.book.specs.declared.refusals.Refusal.{Refusal}
 use Rattle.book.specs.Rows.{billion, from-file}
 use Rattle.book.specs.Ledgers.{Ledger, width-of}
-use Rattle.book.specs.Refusals.{at, told, fault-told}
+use Rattle.book.specs.Refusals.{at, fault-told}
 use Rattle.book.specs.Rules.{Verdict, refused, accepted, unless}
 
 -- a ledger with one table more, which has these rows
@@ -80,20 +76,3 @@ abbrev pub Loads-back : Ledger → (table : ℕ) → Type 0
 Loads-back l t =
     (m : Ledger) → length (m .widths) < 8 → length (m .rows) + length (rows-written t (l .rows)) ≤ 256
     → Load-judged m (file-of l t) (accepted (length (m .widths)) (with-file m (width-of l t) (rows-written t (l .rows))))
-
--- a row of a file is sure enough
-abbrev pub Sure : FileRow → Type 0
-Sure r = r .sureness ≤ billion
-
--- whether each row is sure enough, as a result; a refusal is then the verdict, whatever tests follow
-abbrev pub All-sure : (number field : ℕ) → List FileRow → Result (Unit {0}) Refusal → Type 0
-All-sure number field rows (Ok u) = All Sure rows
-All-sure number field rows (Err f) = (v : Verdict ℕ Ledger) → unless-unsure number field rows v ≡ refused (told f)
-
--- the file has a walk before it over rows of a table's width, all sure enough, and the ledger has room for them
-pub record Fit (l : Ledger) (table : ℕ) (walk : Rows) : Type 0 where
-  pub opened : table < length (l .widths)
-  pub records : List Values
-  pub ahead : Ahead (width-of l table + 1) walk records
-  pub sure : All Sure (map row-of records)
-  pub room : length (l .rows) + length records ≤ 256

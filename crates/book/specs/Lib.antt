@@ -5,3 +5,4 @@ pub mod Rules
 pub mod Books
 pub mod Files
 pub mod Runs
+pub mod Inner

@@ -1,5 +1,6 @@
 //! Calls as data, and what a list of them makes of a new book.
 ghost use Prim.Native.Nat.{ℕ};
+ghost use mathlib.Core.Path.{_≡_};
 ghost use Rattle.book.specs.declared.notes.Book.{Book};
 ghost use Rattle.book.specs.declared.runs.Answer.the-variants.{Number, Done};
 ghost use Rattle.book.specs.Books.{ledger, Obeys};
@@ -67,7 +68,8 @@ impl Book {
 
     /// A new book on which the calls were made, one after the other. A refused call is passed over.
     pub fn run(calls: &[Call]) -> Book
-        ensures { λ r. ⌜ Ledger-of (now (calls .entry)) (ledger r) ⌝ }
+        ensures led { λ r. ⌜ Ledger-of (now (calls .entry)) (ledger r) ⌝ }
+        ensures one { λ _. ⌜ ((l m : Ledger) → Ledger-of (now (calls .entry)) l → Ledger-of (now (calls .entry)) m → l ≡ m) ⌝ }
     {
         let mut book = Book::new();
         for call in calls {

@@ -1,7 +1,7 @@
 -- The reader's answer from a place of a text on: over spaces, marks, digits and tokens.
 use mathlib.Core.Path.{_≡_, refl, sym, ap, _∙_}
-use mathlib.Core.Bool.{false, cond, _&&_}
-use mathlib.Core.Logic.{_⊎_, inl, inr}
+use mathlib.Core.Bool.{Bool, true, false, cond, _&&_}
+use mathlib.Core.Logic.{inl, inr}
 use mathlib.Core.List.{List, [], _∷_, _++_}
 use Prim.Native.Nat.{ℕ, _+_, _-_, _<_, _≤_}
 use native.Mathlib.Nat.{add-zero}
@@ -12,7 +12,7 @@ use lib.Dec.{leb}
 use Rattle.std.specs.Reads.{Digits, value}
 use Rattle.std.proofs.shelf.Lists.{drop-drop, drop-more, drop-all, take-more, take-all, length-take-le}
 use Rattle.std.proofs.shelf.Numerals.{digit-at}
-use Rattle.std.proofs.shelf.Tests.{cond-both, ne-eqb, and-left, and-right, lt-leb}
+use Rattle.std.proofs.shelf.Tests.{cond-both, ne-eqb}
 use Rattle.std.specs.declared.option.Option.the-variants.{Some, None}
 use Rattle.std.specs.declared.result.Result.{Result}
 use Rattle.std.specs.declared.result.Result.the-variants.{Ok, Err}
@@ -27,7 +27,6 @@ use Rattle.rule.specs.Grammar.{Said}
 use Rattle.rule.specs.declared.atoms.Term.{Term}
 use Rattle.rule.specs.Scanning.{State, only, grown, next, ended, finish, scan, onward, answer}
 use Rattle.rule.proofs.Classing.{kind-of, other-is, digit-class}
-use Rattle.rule.proofs.Complete.{grown-fits}
 
 -- a state that spaces leave as it is
 abbrev Rests : State → Type 0
@@ -149,21 +148,24 @@ module _ (ds : List ℕ) (at i : ℕ) (g : Digits 10 ds) (l : i < length ds) (so
       ∙ (ap (λ c. onward (next q c b) (at + i) (drop (i + 1) ds ++ rest)) (digit-class b (h .0) (h .1))
       ∙ ap (λ s. onward (grown d k ts s) (at + i) (drop (i + 1) ds ++ rest)) (sym (take-more ds i 0 l))))
 
-  pub sofar-more : i < 10 → value 10 (take (i + 1) ds) ≤ 4294967295 → Sofar ds at (i + 1)
-  sofar-more few small d k ts rest =
-      let n : length (take (i + 1) ds) ≡ i + 1 = length-take-le (i + 1) ds (omega arith) in
-      let p : at + i + 1 ≡ at + (i + 1) = omega arith in
-      sofar-step d k ts rest
-      ∙ (ap (λ o. onward o (at + i) (drop (i + 1) ds ++ rest)) (grown-fits d k ts (take (i + 1) ds) (omega arith, small))
-      ∙ ap (λ m. scan (State.digits d k ts (take (i + 1) ds)) m (drop (i + 1) ds ++ rest)) p)
+  abbrev lawful : Bool
+  lawful = leb (i + 1) 10 && leb (value 10 (take (i + 1) ds)) 4294967295
 
-  pub sofar-stop : (10 ≤ i) ⊎ (4294967295 < value 10 (take (i + 1) ds)) → Number-read ds at (Err (at + i))
-  sofar-stop over d k ts rest =
+  sofar-test : (t : Bool) → lawful ≡ t → (d : List Said) (k : ℕ) (ts : List Term) (rest : List ℕ)
+      → scan (State.digits d k ts []) at (ds ++ rest) ≡ onward (cond t (Some (State.digits d k ts (take (i + 1) ds))) None) (at + i) (drop (i + 1) ds ++ rest)
+  sofar-test t e d k ts rest =
       let n : length (take (i + 1) ds) ≡ i + 1 = length-take-le (i + 1) ds (omega arith) in
-      let o : (leb (length (take (i + 1) ds)) 10 && leb (value 10 (take (i + 1) ds)) 4294967295) ≡ false =
-      elim over [ inl h ↦ and-left _ _ (lt-leb (length (take (i + 1) ds)) 10 (omega arith)) | inr h ↦ and-right _ _ (lt-leb (value 10 (take (i + 1) ds)) 4294967295 h) ] in
       sofar-step d k ts rest
-      ∙ ap (λ t. onward (cond t (Some (State.digits d k ts (take (i + 1) ds))) None) (at + i) (drop (i + 1) ds ++ rest)) o
+      ∙ ap (λ x. onward (cond x (Some (State.digits d k ts (take (i + 1) ds))) None) (at + i) (drop (i + 1) ds ++ rest))
+      (ap (λ m. leb m 10 && leb (value 10 (take (i + 1) ds)) 4294967295) n ∙ e)
+
+  pub sofar-more : lawful ≡ true → Sofar ds at (i + 1)
+  sofar-more e d k ts rest =
+      let p : at + i + 1 ≡ at + (i + 1) = omega arith in
+      sofar-test true e d k ts rest ∙ ap (λ m. scan (State.digits d k ts (take (i + 1) ds)) m (drop (i + 1) ds ++ rest)) p
+
+  pub sofar-stop : lawful ≡ false → Number-read ds at (Err (at + i))
+  sofar-stop e = sofar-test false e
 
 pub sofar-all : (ds : List ℕ) (at i n : ℕ) → i ≡ length ds → n ≡ value 10 (take i ds) → Sofar ds at i → Number-read ds at (Ok n)
 sofar-all ds at i n e v so =

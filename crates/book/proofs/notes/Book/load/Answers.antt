@@ -8,7 +8,7 @@ use Rattle.book.specs.declared.refusals.Refusal.the-variants.{RowsUsedUp}
 use Rattle.std.proofs.shelf.Results.{err-from-errBy}
 use Rattle.csv.specs.Tables.{row-of}
 use Rattle.book.specs.Books.{ledger}
-use Rattle.book.specs.Files.{Fit}
+use Rattle.book.specs.Inner.{Fit}
 use Rattle.book.specs.Rows.{from-file}
 use Rattle.book.specs.Rules.{with-rows}
 use Rattle.book.proofs.Keeping.{rows-counted}
@@ -20,7 +20,7 @@ returns-in-Err c =
     let a = c .in-Err .ensures tt in
     record {
       judged = load-faulty (c .args .self .now) (c .args .file .now) (c .in-Err .fault) (c .of-file .result) (a .answer) (c .of-file .ensures);
-      one = load-one (ledger (c .args .self .now)) (c .args .file .now) _ a;
+      one = load-one (ledger (c .args .self .now)) (c .args .file .now);
     }
 
 pub returns-then-table-ge8 : need.returns-then-table-ge8
@@ -29,7 +29,7 @@ returns-then-table-ge8 c =
     let n = ap length (c .widths-table .ensures) in
     record {
       judged = load-no-table (c .args .self .now) (c .args .file .now) (c .in-Ok .file) (a .answer) (omega arith);
-      one = load-one (ledger (c .args .self .now)) (c .args .file .now) _ a;
+      one = load-one (ledger (c .args .self .now)) (c .args .file .now);
     }
 
 pub sure-rows-requires : need.sure-rows-requires
@@ -47,7 +47,7 @@ returns-in-Break-sure-rows c =
     record {
       judged = subst (λ r. Loaded b (c .args .file .now) r b) (sym (p .1 ∙ ap Err (p .2)))
           (load-unsure b (c .args .file .now) (c .in-Ok .file) (a .answer) (omega arith) (c .in-Break-sure-rows .field-0 .0) unsure);
-      one = load-one (ledger b) (c .args .file .now) _ a;
+      one = load-one (ledger b) (c .args .file .now);
     }
 
 pub add-given : need.add-given
@@ -68,7 +68,7 @@ returns-then-given-file-gt256 c =
     record {
       judged = subst (λ k. Loaded b (c .args .file .now) (Err (RowsUsedUp (258 - k) 1)) b) (sym g)
           (load-no-row b (c .args .file .now) (c .in-Ok .file) (a .answer) (omega arith) (c .in-Continue-sure-rows .ensures tt (length (a .answer .0)) (a .answer .1) (a .answer .3 .ahead)) (omega arith));
-      one = load-one (ledger b) (c .args .file .now) _ a;
+      one = load-one (ledger b) (c .args .file .now);
     }
 
 pub add-rows-requires : need.add-rows-requires
@@ -92,5 +92,5 @@ returns c =
       judged = subst (λ k. Loaded b (c .args .file .now) (Ok k) (c .add-rows .last .self)) (sym n)
           (load-done b (c .args .file .now) (c .in-Ok .file) (a .answer) (omega arith) (c .in-Continue-sure-rows .ensures tt (length (a .answer .0)) (a .answer .1) (a .answer .3 .ahead)) (c .add-table .last .self) (c .add-rows .last .self) (omega arith) (c .add-table .ensures)
           (added ∙ ap (λ k. with-rows l (l .rows ++ map (from-file k) (map row-of (a .answer .1)))) n));
-      one = load-one (ledger b) (c .args .file .now) _ a;
+      one = load-one (ledger b) (c .args .file .now);
     }
