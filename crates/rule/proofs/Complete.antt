@@ -63,7 +63,7 @@ over-mark h b is q p all skip step go =
     ap (λ l. scan q n (l ++ rest)) (is w (marked x)) ∙ (ap (λ o. onward o n rest) step ∙ go rest s (n + 1))
 
 -- within the limits of a constant
-abbrev pub Fits : List ℕ → Type 0
+abbrev Fits : List ℕ → Type 0
 Fits ds = (length ds ≤ 10) × (value 10 ds ≤ 4294967295)
 
 value-grows : (xs ys : List ℕ) → value 10 xs ≤ value 10 (xs ++ ys)
@@ -77,7 +77,7 @@ value-grows xs ys =
 fits-less : (xs ys : List ℕ) → Fits (xs ++ ys) → Fits xs
 fits-less xs ys f = (omega (arith, length-append xs ys), omega (arith, value-grows xs ys))
 
-pub grown-fits : (d : List Said) (k : ℕ) (ts : List Term) (ds : List ℕ) → Fits ds → grown d k ts ds ≡ Some (State.digits d k ts ds)
+grown-fits : (d : List Said) (k : ℕ) (ts : List Term) (ds : List ℕ) → Fits ds → grown d k ts ds ≡ Some (State.digits d k ts ds)
 grown-fits d k ts ds f = rw (le-leb (length ds) 10 (f .0), le-leb (value 10 ds) 4294967295 (f .1))
 
 digit-byte : (b : ℕ) → digitValue b < 10 → class b ≡ Digit

@@ -18,10 +18,7 @@ use Rattle.rule.specs.Kept.{kept}
 use Rattle.rule.specs.Rules.{atoms-of, Refused, Answered}
 use Rattle.rule.specs.Scanning.{State, next, ended, finish, scan, onward}
 use Rattle.rule.proofs.Complete.{Leads, complete}
-use Rattle.rule.proofs.Sound.{sound}
-
-ok-not-err : {A B : Type 0} (a : A) (b : B) → Ok a ≡ Err b → ⊥
-ok-not-err a b e = let z : _≡_ {A = ℕ} 0 1 = cc in omega arith
+use Rattle.rule.proofs.Sound.{err-not-ok, sound}
 
 -- Every state goes on to the end of some lawful text.
 abbrev Completes : State → Type 0
@@ -49,7 +46,7 @@ record Stuck (q : State) (raw : List ℕ) (i : ℕ) : Type 0 where
   dies : i < length raw → (rest : List ℕ) (m : ℕ) → (p : ℕ) × (scan q m (take (suc i) raw ++ rest) ≡ Err p)
 
 stuck-end : (o : Option (List Said)) (n p : ℕ) → finish o n ≡ Err p → p ≡ n
-stuck-end (Some d) n p e = absurd (ok-not-err d p e)
+stuck-end (Some d) n p e = absurd (err-not-ok p d (sym e))
 stuck-end None n p e = cc
 
 -- a step and then stuck, or stuck at once
@@ -93,7 +90,7 @@ stuck [] q n p e =
 stuck (b ∷ raw) q n p e = stuck-step q b raw n p (next q (class b) b) refl (λ r. stuck raw r (n + 1) p) e
 
 unlawful : (raw : List ℕ) (p : ℕ) → scan State.start 0 raw ≡ Err p → Lawful raw → ⊥
-unlawful raw p e l = ok-not-err (l .0) p (sym (complete raw (l .0) (l .1) 0) ∙ e)
+unlawful raw p e l = err-not-ok p (l .0) (sym e ∙ complete raw (l .0) (l .1) 0)
 
 breaks : (raw : List ℕ) (p : ℕ) → scan State.start 0 raw ≡ Err p → Breaks-at raw p
 breaks raw p e =
@@ -154,8 +151,8 @@ some-atom raw (a ∷ all) h = omega arith
 pub err-answered : (raw : List ℕ) (at : ℕ) → Refused raw at → Answered raw (Err at)
 err-answered raw at r =
     record {
-      says = λ rule e. absurd (ok-not-err rule at (sym e));
-      ok = (λ h. absurd (ok-not-err (h .0) at (sym (h .1))), λ h. absurd (not-both raw at (h .0) (h .1) r));
+      says = λ rule e. absurd (err-not-ok at rule e);
+      ok = (λ h. absurd (err-not-ok at (h .0) (h .1)), λ h. absurd (not-both raw at (h .0) (h .1) r));
       err = λ i. (
         λ e. let same : at ≡ i = cc in subst (Refused raw) same r,
         λ s. ap Err (one-place raw at i r s),
@@ -170,7 +167,7 @@ ok-answered raw rule all l e m =
     record {
       says = λ other f. let same : rule ≡ other = cc in (all, w, subst (λ r. atoms-of r ≡ map kept all) same m);
       ok = (λ _. (l, (all, w)), λ _. (rule, refl));
-      err = λ i. (λ f. absurd (ok-not-err rule i f), λ r. absurd (not-both raw i l (all, w) r));
+      err = λ i. (λ f. absurd (err-not-ok i rule (sym f)), λ r. absurd (not-both raw i l (all, w) r));
       one = one-reading raw;
       some = some-atom raw;
     }

@@ -192,8 +192,8 @@ module _ (b : ℕ) (raw : List ℕ) (all : List Said) where
   back (State.said d k ts) = behind-back d k ts
   back (State.end d) = only-back (State.end d) (State.atom d) Comma (λ r. r) λ e r. rw e (comma-atoms d raw all r)
 
-err-not-ok : (n : ℕ) (all : List Said) → Err n ≡ Ok all → ⊥
-err-not-ok n all e = let z : _≡_ {A = ℕ} 0 1 = cc in omega arith
+pub err-not-ok : {A B : Type 0} (b : B) (a : A) → Err b ≡ Ok a → ⊥
+err-not-ok b a e = let z : _≡_ {A = ℕ} 0 1 = cc in omega arith
 
 -- where a text may end
 finished : (q : State) (n : ℕ) (all : List Said) → finish (ended q) n ≡ Ok all → Rest q [] all

@@ -1,5 +1,8 @@
 //! The reader of rule texts.
+ghost use mathlib.Core.Bool.{_&&_};
+ghost use mathlib.Core.Path.{_≡_};
 ghost use Prim.Native.Nat.{_+_, _<_, _≤_, _^_};
+ghost use lib.Dec.{leb};
 ghost use lib.ListN.{length};
 ghost use Rattle.std.specs.Reads.{Digits};
 ghost use Rattle.rule.specs.Parsing.{Head-read, Number-read, Term-read, Atom-read};
@@ -27,6 +30,13 @@ fn read_head(text: &[u8]) -> Result<usize, usize>
     }
 }
 
+// Whether a constant of so many digits and that number is lawful.
+fn is_lawful(count: usize, number: u64) -> bool
+    ensures { λ r. ⌜ r ≡ (leb count 10 && leb number 4294967295) ⌝ }
+{
+    count <= 10 && number <= 4294967295
+}
+
 // The number of a constant that begins at a place, or the place of the digit that makes it too long or too large.
 fn read_number(digits: &[u8], at: usize) -> Result<u32, usize>
     requires { ⌜ Digits 10 (now digits) ⌝ ∗ ⌜ at + length (now digits) < 2 ^ 64 ⌝ }
@@ -35,7 +45,7 @@ fn read_number(digits: &[u8], at: usize) -> Result<u32, usize>
     let mut number = 0;
     for (i, digit) in digits.iter().enumerate() {
         let longer = u64::from(number) * 10 + u64::from(*digit - b'0');
-        if i >= 10 || longer > 4294967295 {
+        if !is_lawful(i + 1, longer) {
             return Err(at + i);
         }
         number = longer as u32;
