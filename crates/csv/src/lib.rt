@@ -1,4 +1,5 @@
 //! Table files: RFC 4180 texts whose first record is a header and whose other records are rows of numbers.
+#![tactic(auto)]
 ghost use Rattle.std.specs.Prelude.{◌≡◌, ℕ, ◌+◌, ◌^◌, ◌<◌, ◌≤◌, true, false, ◌&&◌, List, [], ◌∷◌, length, drop, is_some, if◌then◌else◌, Some, None, decimal, Decides, MatchOption, MatchResult, slice_index, slice_index_or};
 ghost use Rattle.std.specs.Str.Parse.{digits_value as value};
 ghost use Rattle.std.specs.List.{AllByRecursion as All};

@@ -1,4 +1,6 @@
 //! Graphs of up to 256 members: sets of members, connected parts, chains of four, and sets that split down to single members.
+#![tactic(auto)]
+
 pub mod answers;
 pub mod chains;
 pub mod graphs;

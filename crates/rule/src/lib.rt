@@ -1,4 +1,6 @@
 //! Rule texts: which atoms a question asks for, read from its bytes.
+#![tactic(auto)]
+
 mod atoms;
 mod keeping;
 mod reading;

@@ -1,4 +1,6 @@
 //! Scales: values that are summed and multiplied, and what they mean.
+#![tactic(auto)]
+
 ghost use Rattle.std.specs.Prelude.{◌≡◌};
 ghost use Rattle.scale.specs.Semirings.{Semiring};
 

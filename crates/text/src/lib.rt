@@ -1,4 +1,6 @@
 //! Text written into lent bytes, from a place on.
+#![tactic(auto)]
+
 ghost use Rattle.std.specs.Prelude.{◌≡◌, ◌+◌, ◌≤◌, length, decimal};
 ghost use Rattle.text.specs.Over.{over, numbers_text};
 
