@@ -24,9 +24,9 @@ loop-b-preserved g c =
     untried_more (member c.remove.new.self) b c.remove.ensures
     (λ h. let x = h.1.0 in
     let chain = h.1.1.1 in
-    c.in-default-chain-about.ensures h.0 x h.1.1.0
+    c.in_default-chain_about.ensures h.0 x h.1.1.0
     (c.remove.ensures x ∙ and_from _ _ (c.loop-b.invariant.hope x (h.1.1.0, (b, (h.0, chain_reversed G chain)))) (not_from_false _ (ne_eqb x b (λ e. both_ways _ (G.irreflexive x) (rw (← e) at chain.chain.bc))))) chain)
     c.loop-b.invariant
 
 pub returns : goal.returns
-returns g c a b x d h = untried_none c.in-default.ensures c.loop-b.invariant b (a, (x, (d, h)))
+returns g c a b x d h = untried_none c.in_default.ensures c.loop-b.invariant b (a, (x, (d, h)))

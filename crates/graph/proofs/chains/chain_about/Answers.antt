@@ -17,9 +17,9 @@ loop-c-smaller g c = tally_removed _ _ c.in-Some.c (search rules) c.in-Some.ensu
 pub loop-c-preserved : goal.loop-c-preserved
 loop-c-preserved g c =
     untried_more (member c.remove.new.self) c.in-Some.c c.remove.ensures
-    (λ h. c.in-default-chain-around.ensures h.1.0 h.1.1.0 h.1.1.1) c.loop-c.invariant
+    (λ h. c.in_default-chain_around.ensures h.1.0 h.1.1.0 h.1.1.1) c.loop-c.invariant
 
 pub returns : goal.returns
 returns g c a x d m h =
-    untried_none c.in-default.ensures c.loop-c.invariant x
+    untried_none c.in_default.ensures c.loop-c.invariant x
     (c.intersection-left.ensures x ∙ and_from _ _ (c.neighbours.ensures x ∙ h.chain.bc) m, (a, (d, h)))

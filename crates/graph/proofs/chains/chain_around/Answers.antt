@@ -14,7 +14,7 @@ loop-a-smaller g c = tally_removed _ _ c.in-Some.a (search rules) c.in-Some.ensu
 pub loop-a-preserved : goal.loop-a-preserved
 loop-a-preserved g c =
     untried_more (member c.remove.new.self) c.in-Some.a c.remove.ensures
-    (λ h. both_ways _ (c.in-default-lowest.ensures h.1.0)
+    (λ h. both_ways _ (c.in_default-lowest.ensures h.1.0)
     (c.difference-in-Some.ensures h.1.0 ∙ and_from _ _ h.1.1 (not_from_false _ (c.neighbours.ensures h.1.0 ∙ h.1.2))))
     c.loop-a.invariant
 
@@ -24,14 +24,14 @@ returns-in-Some-lowest g c =
     let d = c.in-Some-lowest.d in
     let p = and_parts _ _ (sym (c.difference-in-Some.ensures d) ∙ c.in-Some-lowest.ensures.0) in
     chain_made (g.G.Graph.laws c.args.graph.now) c.requires.has_b c.requires.has_c c.requires.joined
-    (end_fits c.neighbours-near-b.ensures c.neighbours-near-c.ensures c.difference-2.ensures c.intersection-first.ensures a (c.loop-a.invariant.fits a c.in-Some.ensures.0))
-    (end_fits c.neighbours-near-c.ensures c.neighbours-near-b.ensures c.difference.ensures c.intersection-last.ensures d p.0)
+    (end_fits c.neighbours-near_b.ensures c.neighbours-near_c.ensures c.difference-2.ensures c.intersection-first.ensures a (c.loop-a.invariant.fits a c.in-Some.ensures.0))
+    (end_fits c.neighbours-near_c.ensures c.neighbours-near_b.ensures c.difference.ensures c.intersection-last.ensures d p.0)
     (sym (c.neighbours.ensures d) ∙ not-true _ p.1)
 
 pub returns : goal.returns
 returns g c a d h =
     let G = g.G.Graph.laws c.args.graph.now in
-    untried_none c.in-default.ensures c.loop-a.invariant a (
-      end_has c.neighbours-near-b.ensures c.neighbours-near-c.ensures c.difference-2.ensures c.intersection-first.ensures a (chain_first G h),
-      (d, end_has c.neighbours-near-c.ensures c.neighbours-near-b.ensures c.difference.ensures c.intersection-last.ensures d (chain_last G h), h.chain.ad),
+    untried_none c.in_default.ensures c.loop-a.invariant a (
+      end_has c.neighbours-near_b.ensures c.neighbours-near_c.ensures c.difference-2.ensures c.intersection-first.ensures a (chain_first G h),
+      (d, end_has c.neighbours-near_c.ensures c.neighbours-near_b.ensures c.difference.ensures c.intersection-last.ensures d (chain_last G h), h.chain.ad),
     )

@@ -11,6 +11,6 @@ split-members-requires g c =
 pub returns : goal.returns
 returns g c = record {
   answer = members_answer c.args.selected (member c.below.result) (member c.intersection.result) c.size.result c.size.ensures
-      c.below.ensures c.intersection.ensures _ c.split-members.result c.split-members.ensures;
+      c.below.ensures c.intersection.ensures _ c.split_members.result c.split_members.ensures;
   theorem = splits_iff_no_chain (g.G.Graph.laws c.args.graph.now);
 }

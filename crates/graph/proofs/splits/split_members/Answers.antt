@@ -21,15 +21,15 @@ pub unwrap-requires : goal.unwrap-requires
 unwrap-requires g c =
     let G = g.G.Graph.laws c.args.graph.now in
     finds G c.requires
-    (two_members c.in-Some.first (member c.remove.new.self) c.in-Some.ensures.0 c.remove.ensures (λ none. both_ways _ c.if-is-empty.false (c.is-empty.ensures.1 none)))
-    (one_part G c.parts-in-graph.ensures (search rules)) (one_part (complement_graph G) c.parts-in-complement.ensures (search rules))
+    (two_members c.in-Some.first (member c.remove.new.self) c.in-Some.ensures.0 c.remove.ensures (λ none. both_ways _ c.if-is_empty.false (c.is_empty.ensures.1 none)))
+    (one_part G c.parts-in_graph.ensures (search rules)) (one_part (complement_graph G) c.parts-in-complement.ensures (search rules))
     c.chain.result c.chain.ensures
 
 pub returns : goal.returns
 returns g c =
     let G = g.G.Graph.laws c.args.graph.now in
     record {
-      in_graph = one_part G c.parts-in-graph.ensures (search rules);
-      in_complement = one_part (complement_graph G) c.parts-in-complement.ensures (search rules);
+      in_graph = one_part G c.parts-in_graph.ensures (search rules);
+      in_complement = one_part (complement_graph G) c.parts-in_complement.ensures (search rules);
       chain = subst (FindsChain _ _) c.unwrap.ensures c.chain.ensures;
     }

@@ -23,4 +23,4 @@ loop-x-preserved g c =
     c.difference-rest-in-Some.ensures c.union-frontier.ensures c.loop-x.invariant
 
 pub returns : goal.returns
-returns g c = walk_end (member c.difference.result) c.difference.ensures c.in-default.ensures c.loop-x.invariant
+returns g c = walk_end (member c.difference.result) c.difference.ensures c.in_default.ensures c.loop-x.invariant

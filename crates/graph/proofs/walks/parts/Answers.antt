@@ -32,4 +32,4 @@ loop-x-preserved g c =
     )
 
 pub returns : goal.returns
-returns g c = listing_end c.in-default.ensures c.loop-x.invariant.1
+returns g c = listing_end c.in_default.ensures c.loop-x.invariant.1

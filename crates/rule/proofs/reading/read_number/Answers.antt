@@ -37,8 +37,8 @@ loop-i-preserved c =
     let e : digits_value 10 (take (i + 1) ds) ≡ c.from.result * 10 + c.from-in-loop-i.result =
     omega (arith, c.loop-i.invariant.0, c.from.ensures, c.from-in-loop-i.ensures) in (
       sym e,
-      small (i + 1) (c.from.result * 10 + c.from-in-loop-i.result) c.if-not-is-lawful.ensures,
-      sofar_more ds c.args.at i c.requires.0 l c.loop-i.invariant.2 (ap (λ n. leb (i + 1) 10 && leb n 4294967295) e ∙ sym c.if-not-is-lawful.ensures),
+      small (i + 1) (c.from.result * 10 + c.from-in-loop-i.result) c.if-not-is_lawful.ensures,
+      sofar_more ds c.args.at i c.requires.0 l c.loop-i.invariant.2 (ap (λ n. leb (i + 1) 10 && leb n 4294967295) e ∙ sym c.if-not-is_lawful.ensures),
     )
 
 pub returns : goal.returns

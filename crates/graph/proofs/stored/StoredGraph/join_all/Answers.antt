@@ -22,6 +22,6 @@ returns c =
     let both = member c.intersection.result in
     record {
       count = refl;
-      pairs = λ a b. c.join-all.ensures a b ∙ with_all_same both (members_in self.count (member c.args.set))
+      pairs = λ a b. c.join_all.ensures a b ∙ with_all_same both (members_in self.count (member c.args.set))
           (λ k. of_size c.args.set (member c.below-all.result) both self.count k (c.below-all.ensures k ∙ ap (λ n. ltb k 256 && ltb k n) c.size.ensures) (c.intersection.ensures k)) (stored self.rows) a b;
     }

@@ -23,4 +23,4 @@ loop-a-preserved c =
     (λ a b n. ap (λ s. member s b) (get_or-set_other rows x a row nothing n)) c.loop-a.invariant
 
 pub returns : goal.returns
-returns c = joining_end c.in-default.ensures c.loop-a.invariant
+returns c = joining_end c.in_default.ensures c.loop-a.invariant
