@@ -20,13 +20,13 @@ returns-then-not-advance c =
     let e = c.if-not-advance.ensures in
     subst (λ (y : Reader). Breaks text y.«record» y.field) e.stays
     (breaks_here text c.loop-byte.byte-index x c.loop-byte.invariant c.loop-byte-test.true
-    (ap (λ k. next x.state k x.«record» x.field) (sym c.class-of.ensures) ∙ e.moves))
+    (ap (λ k. next x.state k x.«record» x.field) (sym c.class_of.ensures) ∙ e.moves))
 
 pub loop-byte-preserved : goal.loop-byte-preserved
 loop-byte-preserved c =
     let x = c.loop-byte.reader in
     sofar_more c.args.text.now c.loop-byte.byte-index x c.loop-byte.invariant c.loop-byte-test.true c.advance.new.self
-    (ap (λ k. next x.state k x.«record» x.field) (sym c.class-of.ensures) ∙ c.if-not-advance.ensures.moves)
+    (ap (λ k. next x.state k x.«record» x.field) (sym c.class_of.ensures) ∙ c.if-not-advance.ensures.moves)
 
 pub returns-then-ended : goal.returns-then-ended
 returns-then-ended c =

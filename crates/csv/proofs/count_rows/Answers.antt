@@ -14,16 +14,16 @@ returns c = λ rows h.
 
 pub returns-then-record-fields : goal.returns-then-record-fields
 returns-then-record-fields c = λ rows h.
-    count_wrong c.args.fields c.args.text.now c.loop-at.at c.loop-at.count rows (c.loop-at.invariant.2 rows h) (omega arith) c.record-at-record.result c.record-at-record.ensures.found
+    count_wrong c.args.fields c.args.text.now c.loop-at.at c.loop-at.count rows (c.loop-at.invariant.2 rows h) (omega arith) c.record_at-record.result c.record_at-record.ensures.found
     c.if-record-fields.true
 
 pub loop-at-preserved : goal.loop-at-preserved
 loop-at-preserved c =
-    let m = c.record-at-record.ensures.moves in
+    let m = c.record_at-record.ensures.moves in
     let k = m.1 (omega arith) in (
       m.0,
       omega (arith, c.loop-at.invariant.1),
       λ rows h.
-          count_more c.args.fields c.args.text.now c.loop-at.at c.loop-at.count rows (c.loop-at.invariant.2 rows h) (omega arith) c.record-at-record.result c.record-at-record.ensures.found
+          count_more c.args.fields c.args.text.now c.loop-at.at c.loop-at.count rows (c.loop-at.invariant.2 rows h) (omega arith) c.record_at-record.result c.record_at-record.ensures.found
           c.if-record-fields.false,
     )

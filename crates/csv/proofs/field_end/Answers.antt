@@ -11,7 +11,7 @@ pub returns-then-parted : goal.returns-then-parted
 returns-then-parted c =
     let text = c.args.text.now in
     let x = c.loop-i.reader in
-    let p = ap (λ q. done x.state && parts q) (sym c.class-of-class.ensures) ∙ sym c.if-parted.ensures in
+    let p = ap (λ q. done x.state && parts q) (sym c.class_of-class.ensures) ∙ sym c.if-parted.ensures in
     record {
       within = (omega arith, omega arith);
       ends =
@@ -23,8 +23,8 @@ pub returns-then-not-advance : goal.returns-then-not-advance
 returns-then-not-advance c =
     let text = c.args.text.now in
     let x = c.loop-i.reader in
-    let p = ap (λ q. done x.state && parts q) (sym c.class-of-class.ensures) ∙ sym c.if-parted.ensures in
-    let m = ap (λ k. next x.state k x.«record» x.field) (sym c.class-of-class.ensures) ∙ c.if-not-advance.ensures.moves in
+    let p = ap (λ q. done x.state && parts q) (sym c.class_of-class.ensures) ∙ sym c.if-parted.ensures in
+    let m = ap (λ k. next x.state k x.«record» x.field) (sym c.class_of-class.ensures) ∙ c.if-not-advance.ensures.moves in
     record {
       within = (omega arith, omega arith);
       ends =
@@ -35,8 +35,8 @@ returns-then-not-advance c =
 pub loop-i-preserved : goal.loop-i-preserved
 loop-i-preserved c =
     let x = c.loop-i.reader in
-    let p = ap (λ q. done x.state && parts q) (sym c.class-of-class.ensures) ∙ sym c.if-parted.ensures in
-    let m = ap (λ k. next x.state k x.«record» x.field) (sym c.class-of-class.ensures) ∙ c.if-not-advance.ensures.moves in
+    let p = ap (λ q. done x.state && parts q) (sym c.class_of-class.ensures) ∙ sym c.if-parted.ensures in
+    let m = ap (λ k. next x.state k x.«record» x.field) (sym c.class_of-class.ensures) ∙ c.if-not-advance.ensures.moves in
     inside_more c.args.text.now c.args.start c.loop-i.i x c.loop-i.invariant (omega arith) c.advance.new.self p m
 
 pub returns : goal.returns

@@ -4,20 +4,20 @@ use Rattle.csv.specs.Grammar.{COMMA}
 use Rattle.csv.proofs.Writing.{decimal_short}
 use Rattle.csv.proofs.put_cell.Goals as goal
 
-pub put-number-end-requires : goal.put-number-end-requires
-put-number-end-requires c = let d = decimal_short c.args.number (search rules) in omega (arith, c.requires)
+pub put_number-end-requires : goal.put_number-end-requires
+put_number-end-requires c = let d = decimal_short c.args.number (search rules) in omega (arith, c.requires)
 
 pub put-requires : goal.put-requires
 put-requires c =
     let d = decimal_short c.args.number (search rules) in
-    omega (arith, c.requires, c.put-number-end.ensures.ends)
+    omega (arith, c.requires, c.put_number-end.ensures.ends)
 
 pub returns : goal.returns
 returns c =
-    let e = c.put-number-end.ensures in
+    let e = c.put_number-end.ensures in
     let p = c.put.ensures in
     record {
       ends = omega (arith, e.ends, p.ends, length-append (decimal c.args.number) (COMMA ∷ []));
-      wrote = then c.args.out.now c.put-number-end.new.out c.put.new.out c.args.at c.put-number-end.result
+      wrote = then c.args.out.now c.put_number-end.new.out c.put.new.out c.args.at c.put_number-end.result
           (decimal c.args.number) (COMMA ∷ []) (omega (arith, c.requires)) e.wrote e.ends p.wrote;
     }

@@ -10,17 +10,17 @@ use Rattle.csv.proofs.put_header.Goals as goal
 pub loop-k-init : goal.loop-k-init
 loop-k-init c = wrote_none c.args.out.now c.args.at (omega (arith, c.requires.1))
 
-pub put-name-end-requires : goal.put-name-end-requires
-put-name-end-requires c =
+pub put_name-end-requires : goal.put_name-end-requires
+put_name-end-requires c =
     let l = columns_length c.loop-k.k (omega (arith, c.requires.0)) in
     (omega (arith, c.requires.0), omega (arith, c.requires.1, c.requires.0, c.loop-k.invariant.place))
 
 pub loop-k-preserved : goal.loop-k-preserved
 loop-k-preserved c =
     let k = c.loop-k.k in
-    let e = c.put-name-end.ensures in
-    subst (λ s. Wrote c.args.out.now c.args.at s c.put-name-end.new.out c.put-name-end.result) (sym (columns_more k))
-    (wrote_more c.args.out.now c.args.at (flat_map piece (columns k)) c.loop-k.out c.loop-k.end (piece (column (k + 1))) c.put-name-end.new.out c.put-name-end.result
+    let e = c.put_name-end.ensures in
+    subst (λ s. Wrote c.args.out.now c.args.at s c.put_name-end.new.out c.put_name-end.result) (sym (columns_more k))
+    (wrote_more c.args.out.now c.args.at (flat_map piece (columns k)) c.loop-k.out c.loop-k.end (piece (column (k + 1))) c.put_name-end.new.out c.put_name-end.result
     (omega (arith, c.requires.1)) c.loop-k.invariant e.wrote (omega (arith, e.ends, piece_length (k + 1) (omega (arith, c.requires.0)))))
 
 pub put-requires : goal.put-requires

@@ -10,8 +10,8 @@ use Rattle.csv.proofs.put_row.Goals as goal
 pub loop-i-init : goal.loop-i-init
 loop-i-init c = wrote_none c.args.out.now c.args.at (omega (arith, c.requires.1))
 
-pub put-cell-end-requires : goal.put-cell-end-requires
-put-cell-end-requires c =
+pub put_cell-end-requires : goal.put_cell-end-requires
+put_cell-end-requires c =
     let l = cells_length c.args.row.cells (λ k. search rules) c.loop-i.i in
     omega (arith, c.requires.0, c.requires.1, c.loop-i.invariant.place)
 
@@ -19,14 +19,14 @@ pub loop-i-preserved : goal.loop-i-preserved
 loop-i-preserved c =
     let i = c.loop-i.i in
     let cells = c.args.row.cells in
-    let e = c.put-cell-end.ensures in
+    let e = c.put_cell-end.ensures in
     let lt : i < length cells = search rules in
-    subst (λ s. Wrote c.args.out.now c.args.at s c.put-cell-end.new.out c.put-cell-end.result) (sym (cells_more cells i lt))
-    (wrote_more c.args.out.now c.args.at (flat_map piece (map decimal (take i cells))) c.loop-i.out c.loop-i.end (piece (decimal (get_or cells i 0))) c.put-cell-end.new.out c.put-cell-end.result
+    subst (λ s. Wrote c.args.out.now c.args.at s c.put_cell-end.new.out c.put_cell-end.result) (sym (cells_more cells i lt))
+    (wrote_more c.args.out.now c.args.at (flat_map piece (map decimal (take i cells))) c.loop-i.out c.loop-i.end (piece (decimal (get_or cells i 0))) c.put_cell-end.new.out c.put_cell-end.result
     (omega (arith, c.requires.1)) c.loop-i.invariant e.wrote e.ends)
 
-pub put-number-end-requires : goal.put-number-end-requires
-put-number-end-requires c =
+pub put_number-end-requires : goal.put_number-end-requires
+put_number-end-requires c =
     let l = cells_length c.args.row.cells (λ k. search rules) c.loop-i.i in
     let d = decimal_short c.args.row.sureness (search rules) in
     omega (arith, c.requires.0, c.requires.1, c.loop-i.invariant.place)
@@ -35,7 +35,7 @@ pub put-requires : goal.put-requires
 put-requires c =
     let l = cells_length c.args.row.cells (λ k. search rules) c.loop-i.i in
     let d = decimal_short c.args.row.sureness (search rules) in
-    omega (arith, c.requires.0, c.requires.1, c.loop-i.invariant.place, c.put-number-end.ensures.ends)
+    omega (arith, c.requires.0, c.requires.1, c.loop-i.invariant.place, c.put_number-end.ensures.ends)
 
 pub returns : goal.returns
 returns c =
@@ -47,12 +47,12 @@ returns c =
     let front = flat_map piece (decimals w row) in
     let d = decimal row.sureness in
     let end = CR ∷ LF ∷ [] in
-    let n = c.put-number-end.ensures in
+    let n = c.put_number-end.ensures in
     let p = c.put.ensures in
     let i : c.loop-i.i ≡ w = omega arith in
     let f = subst (λ k. Wrote before at (flat_map piece (map decimal (take k row.cells))) c.loop-i.out c.loop-i.end) i c.loop-i.invariant in
-    let g = wrote_more before at front c.loop-i.out c.loop-i.end d c.put-number-end.new.out c.put-number-end.result room f n.wrote n.ends in
-    let h = wrote_more before at (front ++ d) c.put-number-end.new.out c.put-number-end.result end c.put.new.out c.put.result room g p.wrote p.ends in
+    let g = wrote_more before at front c.loop-i.out c.loop-i.end d c.put_number-end.new.out c.put_number-end.result room f n.wrote n.ends in
+    let h = wrote_more before at (front ++ d) c.put_number-end.new.out c.put_number-end.result end c.put.new.out c.put.result room g p.wrote p.ends in
     let k = subst (λ s. Wrote before at s c.put.new.out c.put.result) (append_assoc front d end) h in
     record {
       ends = k.place;

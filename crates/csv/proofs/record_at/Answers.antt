@@ -15,22 +15,22 @@ returns-then-end-text c =
     let text = c.args.text.now in
     let start = c.args.start in
     let x = c.loop-record.record in
-    let e = c.field-end-end.result in
-    let w = c.field-end-end.ensures.within in
+    let e = c.field_end-end.result in
+    let w = c.field_end-end.ensures.within in
     let up = sym c.push.ensures in
     record {
       moves = (omega arith, λ _. omega (arith, w.0, c.loop-record.invariant.few));
       some = subst (λ (y : RecordPlaces). 0 < y.fields) up (omega arith);
       within =
           subst (λ (y : RecordPlaces). (k : ℕ) → Within text (get_or y.places k nowhere)) up
-          (then_within text start x c.loop-record.invariant e w.0 w.1 c.field-end-end.ensures.ends);
+          (then_within text start x c.loop-record.invariant e w.0 w.1 c.field_end-end.ensures.ends);
       found =
           subst
           (λ (y : RecordPlaces).
           (values : List (List ℕ)) (records : List (List (List ℕ))) → File (drop start text) (values ∷ records) →
           Found text values records (record { places = y.places; fields = y.fields; next = e + 2 })) up
-          (found_then text start x c.loop-record.invariant e w.0 w.1 c.field-end-end.ensures.ends
-          (λ l g. false≢true (c.if-not-is-comma.ensures.only l g)) (e + 2) refl);
+          (found_then text start x c.loop-record.invariant e w.0 w.1 c.field_end-end.ensures.ends
+          (λ l g. false≢true (c.if-not-is_comma.ensures.only l g)) (e + 2) refl);
     }
 
 pub returns-else-end-text : goal.returns-else-end-text
@@ -38,22 +38,22 @@ returns-else-end-text c =
     let text = c.args.text.now in
     let start = c.args.start in
     let x = c.loop-record.record in
-    let e = c.field-end-end.result in
-    let w = c.field-end-end.ensures.within in
+    let e = c.field_end-end.result in
+    let w = c.field_end-end.ensures.within in
     let up = sym c.push.ensures in
     record {
       moves = (omega arith, λ l. l);
       some = subst (λ (y : RecordPlaces). 0 < y.fields) up (omega arith);
       within =
           subst (λ (y : RecordPlaces). (k : ℕ) → Within text (get_or y.places k nowhere)) up
-          (then_within text start x c.loop-record.invariant e w.0 w.1 c.field-end-end.ensures.ends);
+          (then_within text start x c.loop-record.invariant e w.0 w.1 c.field_end-end.ensures.ends);
       found =
           subst
           (λ (y : RecordPlaces).
           (values : List (List ℕ)) (records : List (List (List ℕ))) → File (drop start text) (values ∷ records) →
           Found text values records (record { places = y.places; fields = y.fields; next = length text })) up
-          (found_then text start x c.loop-record.invariant e w.0 w.1 c.field-end-end.ensures.ends
-          (λ l g. false≢true (c.if-not-is-comma.ensures.only l g)) (length text)
+          (found_then text start x c.loop-record.invariant e w.0 w.1 c.field_end-end.ensures.ends
+          (λ l g. false≢true (c.if-not-is_comma.ensures.only l g)) (length text)
           (drop_all (length text) text (omega arith) ∙ sym (drop_all (e + 2) text (omega arith))));
     }
 
@@ -61,8 +61,8 @@ pub loop-record-preserved : goal.loop-record-preserved
 loop-record-preserved c =
     let text = c.args.text.now in
     let start = c.args.start in
-    let e = c.field-end-end.result in
-    let w = c.field-end-end.ensures.within in
-    let k = c.if-not-is-comma.ensures.there refl in
+    let e = c.field_end-end.result in
+    let w = c.field_end-end.ensures.within in
+    let k = c.if-not-is_comma.ensures.there refl in
     subst (λ (y : RecordPlaces). Going text start (record { places = y.places; fields = y.fields; next = e + 1 })) (sym c.push.ensures)
-    (going_more text start c.loop-record.record c.loop-record.invariant e w.0 w.1 c.field-end-end.ensures.ends k.0 k.1)
+    (going_more text start c.loop-record.record c.loop-record.invariant e w.0 w.1 c.field_end-end.ensures.ends k.0 k.1)

@@ -3,9 +3,9 @@ use Rattle.std.proofs.lemmas.Bool.{false≢true}
 use Rattle.csv.proofs.Contents.{content_quoted, content_plain}
 use Rattle.csv.proofs.unquoted.Goals as goal
 
-pub returns-then-is-quoted : goal.returns-then-is-quoted
-returns-then-is-quoted c = λ v fd.
-    let q = c.if-is-quoted.ensures.there refl in content_quoted fd q.0 q.1
+pub returns-then-is_quoted : goal.returns-then-is_quoted
+returns-then-is_quoted c = λ v fd.
+    let q = c.if-is_quoted.ensures.there refl in content_quoted fd q.0 q.1
 
 pub returns : goal.returns
-returns c = λ v fd. content_plain fd (λ l e. false≢true (c.if-is-quoted.ensures.only l e))
+returns c = λ v fd. content_plain fd (λ l e. false≢true (c.if-is_quoted.ensures.only l e))

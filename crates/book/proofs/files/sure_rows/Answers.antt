@@ -5,15 +5,15 @@ use Rattle.book.proofs.files.sure_rows.Goals as goal
 
 pub returns-then-row-gt1000000000 : goal.returns-then-row-gt1000000000
 returns-then-row-gt1000000000 c =
-    unsure_here c.loop-row.«record» c.args.field c.args.rows c.loop-row.left c.next-row.new.self c.in-Some.row c.loop-row.invariant c.in-Some.ensures.walks c.if-row-gt1000000000.true
+    unsure_here c.loop-row.«record» c.args.field c.args.rows c.loop-row.left c.next_row.new.self c.in-Some.row c.loop-row.invariant c.in-Some.ensures.walks c.if-row-gt1000000000.true
 
 pub overflow-add-record : goal.overflow-add-record
 overflow-add-record c =
     let (n, records, a, few) = c.requires in
-    let l = number_small c.loop-row.«record» c.args.rows c.loop-row.left c.next-row.new.self c.in-Some.row c.loop-row.invariant c.in-Some.ensures.walks n records a in
+    let l = number_small c.loop-row.«record» c.args.rows c.loop-row.left c.next_row.new.self c.in-Some.row c.loop-row.invariant c.in-Some.ensures.walks n records a in
     omega arith
 
 pub loop-row-preserved : goal.loop-row-preserved
 loop-row-preserved c =
-    passed_one (SureTo c.loop-row.«record») c.args.rows c.loop-row.left c.next-row.new.self c.loop-row.invariant (SureTo (c.loop-row.«record» + 1)) c.in-Some.row c.in-Some.ensures.walks
+    passed_one (SureTo c.loop-row.«record») c.args.rows c.loop-row.left c.next_row.new.self c.loop-row.invariant (SureTo (c.loop-row.«record» + 1)) c.in-Some.row c.in-Some.ensures.walks
     (sure_more c.loop-row.«record» c.in-Some.row c.if-row-gt1000000000.false)

@@ -9,16 +9,16 @@ numbers-requires c = (
   within_take c.args.text.now c.args.self.places c.min-fields.result c.requires.1,
 )
 
-pub returns-in-err-numbers : goal.returns-in-err-numbers
-returns-in-err-numbers c = λ values records h few.
+pub returns-in_err-numbers : goal.returns-in_err-numbers
+returns-in_err-numbers c = λ values records h few.
     let p = err_from_is_err_and c.from-residual.result c.from-residual.ensures.1 in
     let room : length c.args.self.places ≡ 5 = search rules in
     let s = standing_found c.args.text.now values records c.args.self h few room c.min-fields.result c.min-fields.ensures in
-    rw (p.1, p.2) (c.in-err-numbers.ensures values s.0 s.1)
+    rw (p.1, p.2) (c.in_err-numbers.ensures values s.0 s.1)
 
 pub returns : goal.returns
 returns c = λ values records h few.
     let room : length c.args.self.places ≡ 5 = search rules in
     let s = standing_found c.args.text.now values records c.args.self h few room c.min-fields.result c.min-fields.ensures in
-    let n = c.in-ok-numbers.ensures values s.0 s.1 in
-    (n.1, row_is values c.in-ok-numbers.numbers n _ (omega (arith, c.min-fields.ensures, h.fields, c.requires.0)) few)
+    let n = c.in_ok-numbers.ensures values s.0 s.1 in
+    (n.1, row_is values c.in_ok-numbers.numbers n _ (omega (arith, c.min-fields.ensures, h.fields, c.requires.0)) few)

@@ -11,10 +11,10 @@ returns-then-self-text c =
 
 pub returns-in-Ok : goal.returns-in-Ok
 returns-in-Ok c =
-    let m = c.record-at-record.ensures.moves in
+    let m = c.record_at-record.ensures.moves in
     record {
       walks = λ n rows h.
-          walked_row n c.args.self.now (omega arith) c.record-at-record.result c.record-at-record.ensures.found c.row.result c.row.ensures c.in-Ok.row c.in-Ok.is rows h;
+          walked_row n c.args.self.now (omega arith) c.record_at-record.result c.record_at-record.ensures.found c.row.result c.row.ensures c.in-Ok.row c.in-Ok.is rows h;
       falls = λ e. omega (arith, m.0, m.1 (omega arith));
     }
 
@@ -22,6 +22,6 @@ pub returns-in-Err : goal.returns-in-Err
 returns-in-Err c =
     record {
       walks = λ n rows h.
-          absurd (walked_wrong n c.args.self.now (omega arith) c.record-at-record.result c.record-at-record.ensures.found c.row.result c.row.ensures c.in-Err.field-0 c.in-Err.is rows h);
+          absurd (walked_wrong n c.args.self.now (omega arith) c.record_at-record.result c.record_at-record.ensures.found c.row.result c.row.ensures c.in-Err.field-0 c.in-Err.is rows h);
       falls = λ e. absurd (search rules);
     }

@@ -33,18 +33,18 @@ loop-i-preserved c =
       | in-default w ↦ subst P (sym w.brackets-is) (filled_other ends (sure_leaf ends sure ns) ns i bs w.in-default.not-Row c.loop-i.invariant.0, c.loop-i.invariant.1)
     ]
 
-pub returns-then-is-empty : goal.returns-then-is-empty
-returns-then-is-empty c =
+pub returns-then-is_empty : goal.returns-then-is_empty
+returns-then-is_empty c =
     let ns = c.args.nodes.now in
     let sure = c.args.sure.now in
-    let b = c.known-then-is-empty in
-    let e = no_bracket ends sure ns (eqb-true _ _ (sym c.if-is-empty.ensures)) (ends b.result) (ap₂ (λ x y. (x, y)) b.ensures.low b.ensures.high) in
+    let b = c.known-then-is_empty in
+    let e = no_bracket ends sure ns (eqb-true _ _ (sym c.if-is_empty.ensures)) (ends b.result) (ap₂ (λ x y. (x, y)) b.ensures.low b.ensures.high) in
     record { bracket = e; near = nears sure ns (ends b.result) e }
 
-pub returns-else-is-empty : goal.returns-else-is-empty
-returns-else-is-empty c =
+pub returns-else-is_empty : goal.returns-else-is_empty
+returns-else-is_empty c =
     let ns = c.args.nodes.now in
     let sure = c.args.sure.now in
-    let n = eqb-false (length ns) 0 (sym c.if-is-empty.ensures) in
+    let n = eqb-false (length ns) 0 (sym c.if-is_empty.ensures) in
     let e = first_bracket ends sure ns c.loop-i.brackets c.fold.new.values c.loop-i.i (omega arith) c.loop-i.invariant.0 c.fold.ensures.worked (omega arith) c.index-brackets-0.result in
     record { bracket = e; near = nears sure ns (ends (get_or c.fold.new.values 0 c.index-brackets-0.result)) e }

@@ -10,16 +10,16 @@ use Rattle.tree.proofs.Progress.{roomed, within, begin_at, onward_at}
 use Rattle.tree.proofs.TextTurns.{Since, since_none, since_more, room_first, room_next, ends_last, all_written, row_written, none_vacant}
 use Rattle.tree.proofs.form.+put_part.Goals as goal
 
-pub put-row-text-requires : goal.put-row-text-requires
-put-row-text-requires t c =
+pub put_row_text-requires : goal.put_row_text-requires
+put_row_text-requires t c =
     let (F, l) = c.requires.laid in
     omega (arith, c.requires.room F l, ap length (row_written c.args.nodes.now F l c.args.at c.requires.there c.in-Row.row c.in-Row.is c.args.inside))
 
 pub returns-in-Row : goal.returns-in-Row
 returns-in-Row t c =
     record {
-      ends = λ F l. c.put-row-text.ensures.ends ∙ ap (λ x. c.args.start + length x) (sym (row_written c.args.nodes.now F l c.args.at c.requires.there c.in-Row.row c.in-Row.is c.args.inside));
-      wrote = λ F l. c.put-row-text.ensures.wrote ∙ ap (over c.args.out.now c.args.start) (sym (row_written c.args.nodes.now F l c.args.at c.requires.there c.in-Row.row c.in-Row.is c.args.inside));
+      ends = λ F l. c.put_row_text.ensures.ends ∙ ap (λ x. c.args.start + length x) (sym (row_written c.args.nodes.now F l c.args.at c.requires.there c.in-Row.row c.in-Row.is c.args.inside));
+      wrote = λ F l. c.put_row_text.ensures.wrote ∙ ap (over c.args.out.now c.args.start) (sym (row_written c.args.nodes.now F l c.args.at c.requires.there c.in-Row.row c.in-Row.is c.args.inside));
     }
 
 pub returns-in-default-inner : goal.returns-in-default-inner
@@ -32,8 +32,8 @@ put-opened-requires t c =
     let (F, l) = c.requires.laid in
     omega (arith, room_first c.args.nodes.now F l c.in-Some.kind c.args.at c.in-Some.size c.requires.there is c.args.inside c.args.start (length c.args.out.now) (c.requires.room F l), ap length c.brackets.ensures.0)
 
-pub put-part-end-requires : goal.put-part-end-requires
-put-part-end-requires t c =
+pub put_part-end-requires : goal.put_part-end-requires
+put_part-end-requires t c =
     let is : get_or c.args.nodes.now c.args.at Vacant ≡ inner c.in-Some.kind c.in-Some.size = inner_some _ c.in-Some.kind c.in-Some.size (sym c.in-Some.is ∙ c.inner.ensures) in
     let r = roomed c.args.nodes.now c.requires.laid c.in-Some.kind c.args.at c.in-Some.size Vacant c.requires.there is in
     let n : c.args.at + 1 < length c.args.nodes.now = omega arith in (
@@ -68,17 +68,17 @@ loop-child-init t c =
     let r = roomed c.args.nodes.now c.requires.laid c.in-Some.kind c.args.at c.in-Some.size Vacant c.requires.there is in (
       omega arith,
       r.0,
-      λ F l. begin_at c.args.nodes.now F l c.in-Some.kind c.args.at c.in-Some.size Vacant c.requires.there is (omega arith) _ (since_none c.in-Some.kind (get_or (parts F) (c.args.at + 1) (row 0)) c.put-part-end.new.out c.put-part-end.result) Vacant c.size.result c.size.ensures,
+      λ F l. begin_at c.args.nodes.now F l c.in-Some.kind c.args.at c.in-Some.size Vacant c.requires.there is (omega arith) _ (since_none c.in-Some.kind (get_or (parts F) (c.args.at + 1) (row 0)) c.put_part-end.new.out c.put_part-end.result) Vacant c.size.result c.size.ensures,
     )
 
 pub put-next-requires : goal.put-next-requires
 put-next-requires t c =
     let is : get_or c.args.nodes.now c.args.at Vacant ≡ inner c.in-Some.kind c.in-Some.size = inner_some _ c.in-Some.kind c.in-Some.size (sym c.in-Some.is ∙ c.inner.ensures) in
     let (F, l) = c.requires.laid in
-    omega (arith, room_next c.args.nodes.now F l c.in-Some.kind c.args.at c.in-Some.size c.requires.there is c.args.inside c.args.start (length c.args.out.now) (c.requires.room F l) c.loop-child.child c.put-part-end.new.out c.put-part-end.result c.loop-child.out c.loop-child.end (c.loop-child.invariant.2 F l) (omega (arith, ap length c.brackets.ensures.0, c.put-opened.ensures.ends, c.put-part-end.ensures.ends F l, ap (λ b. length (formula_text b (get_or (parts F) (c.args.at + 1) (row 0)))) c.encloses.ensures)) c.loop-child-test.true, ap length c.between.ensures, c.loop-child.auto.out)
+    omega (arith, room_next c.args.nodes.now F l c.in-Some.kind c.args.at c.in-Some.size c.requires.there is c.args.inside c.args.start (length c.args.out.now) (c.requires.room F l) c.loop-child.child c.put_part-end.new.out c.put_part-end.result c.loop-child.out c.loop-child.end (c.loop-child.invariant.2 F l) (omega (arith, ap length c.brackets.ensures.0, c.put-opened.ensures.ends, c.put_part-end.ensures.ends F l, ap (λ b. length (formula_text b (get_or (parts F) (c.args.at + 1) (row 0)))) c.encloses.ensures)) c.loop-child-test.true, ap length c.between.ensures, c.loop-child.auto.out)
 
-pub put-part-end-requires-in-loop-child : goal.put-part-end-requires-in-loop-child
-put-part-end-requires-in-loop-child t c =
+pub put_part-end-requires-in-loop-child : goal.put_part-end-requires-in-loop-child
+put_part-end-requires-in-loop-child t c =
     let is : get_or c.args.nodes.now c.args.at Vacant ≡ inner c.in-Some.kind c.in-Some.size = inner_some _ c.in-Some.kind c.in-Some.size (sym c.in-Some.is ∙ c.inner.ensures) in
     let n : c.loop-child.child < length c.args.nodes.now = omega (arith, c.loop-child.invariant.1) in (
       omega (arith, c.loop-child.invariant.0),
@@ -89,7 +89,7 @@ put-part-end-requires-in-loop-child t c =
           λ F l.
               omega (
                 arith,
-                room_next c.args.nodes.now F l c.in-Some.kind c.args.at c.in-Some.size c.requires.there is c.args.inside c.args.start (length c.args.out.now) (c.requires.room F l) c.loop-child.child c.put-part-end.new.out c.put-part-end.result c.loop-child.out c.loop-child.end (c.loop-child.invariant.2 F l) (omega (arith, ap length c.brackets.ensures.0, c.put-opened.ensures.ends, c.put-part-end.ensures.ends F l, ap (λ b. length (formula_text b (get_or (parts F) (c.args.at + 1) (row 0)))) c.encloses.ensures)) c.loop-child-test.true,
+                room_next c.args.nodes.now F l c.in-Some.kind c.args.at c.in-Some.size c.requires.there is c.args.inside c.args.start (length c.args.out.now) (c.requires.room F l) c.loop-child.child c.put_part-end.new.out c.put_part-end.result c.loop-child.out c.loop-child.end (c.loop-child.invariant.2 F l) (omega (arith, ap length c.brackets.ensures.0, c.put-opened.ensures.ends, c.put_part-end.ensures.ends F l, ap (λ b. length (formula_text b (get_or (parts F) (c.args.at + 1) (row 0)))) c.encloses.ensures)) c.loop-child-test.true,
                 ap length c.between.ensures,
                 c.loop-child.auto.out,
                 c.put-next.ensures.ends,
@@ -117,22 +117,22 @@ pub loop-child-preserved : goal.loop-child-preserved
 loop-child-preserved t c =
     let is : get_or c.args.nodes.now c.args.at Vacant ≡ inner c.in-Some.kind c.in-Some.size = inner_some _ c.in-Some.kind c.in-Some.size (sym c.in-Some.is ∙ c.inner.ensures) in
     let k = c.in-Some.kind in
-    let p = c.put-part-end-in-loop-child in
+    let p = c.put_part-end-in-loop-child in
     let gap-wrote = c.put-next.ensures.wrote ∙ ap (over c.loop-child.out c.loop-child.end) c.between.ensures in
     let gap_ends = c.put-next.ensures.ends ∙ ap (λ x. c.loop-child.end + length x) c.between.ensures in (
       omega (arith, c.loop-child.invariant.0),
       c.loop-child.invariant.1,
       λ F l.
           let child = get_or (parts F) c.loop-child.child (row 0) in
-          let first_fits : c.put-part-end.result ≤ length c.put-part-end.new.out = omega (arith, room_first c.args.nodes.now F l c.in-Some.kind c.args.at c.in-Some.size c.requires.there is c.args.inside c.args.start (length c.args.out.now) (c.requires.room F l), ap length c.brackets.ensures.0, c.put-opened.ensures.ends, c.put-part-end.ensures.ends F l, ap (λ b. length (formula_text b (get_or (parts F) (c.args.at + 1) (row 0)))) c.encloses.ensures, c.put-opened.auto.out, c.put-part-end.auto.out) in
-          let next_fits : c.loop-child.end ≤ length c.loop-child.out = omega (arith, room_next c.args.nodes.now F l c.in-Some.kind c.args.at c.in-Some.size c.requires.there is c.args.inside c.args.start (length c.args.out.now) (c.requires.room F l) c.loop-child.child c.put-part-end.new.out c.put-part-end.result c.loop-child.out c.loop-child.end (c.loop-child.invariant.2 F l) (omega (arith, ap length c.brackets.ensures.0, c.put-opened.ensures.ends, c.put-part-end.ensures.ends F l, ap (λ b. length (formula_text b (get_or (parts F) (c.args.at + 1) (row 0)))) c.encloses.ensures)) c.loop-child-test.true, c.loop-child.auto.out) in
+          let first_fits : c.put_part-end.result ≤ length c.put_part-end.new.out = omega (arith, room_first c.args.nodes.now F l c.in-Some.kind c.args.at c.in-Some.size c.requires.there is c.args.inside c.args.start (length c.args.out.now) (c.requires.room F l), ap length c.brackets.ensures.0, c.put-opened.ensures.ends, c.put_part-end.ensures.ends F l, ap (λ b. length (formula_text b (get_or (parts F) (c.args.at + 1) (row 0)))) c.encloses.ensures, c.put-opened.auto.out, c.put_part-end.auto.out) in
+          let next_fits : c.loop-child.end ≤ length c.loop-child.out = omega (arith, room_next c.args.nodes.now F l c.in-Some.kind c.args.at c.in-Some.size c.requires.there is c.args.inside c.args.start (length c.args.out.now) (c.requires.room F l) c.loop-child.child c.put_part-end.new.out c.put_part-end.result c.loop-child.out c.loop-child.end (c.loop-child.invariant.2 F l) (omega (arith, ap length c.brackets.ensures.0, c.put-opened.ensures.ends, c.put_part-end.ensures.ends F l, ap (λ b. length (formula_text b (get_or (parts F) (c.args.at + 1) (row 0)))) c.encloses.ensures)) c.loop-child-test.true, c.loop-child.auto.out) in
           let child-wrote = p.ensures.wrote F l ∙ ap (λ b. over c.put-next.new.out c.put-next.result (formula_text b child)) c.encloses-in-loop-child.ensures in
           let child-ends = p.ensures.ends F l ∙ ap (λ b. c.put-next.result + length (formula_text b child)) c.encloses-in-loop-child.ensures in
           onward_at c.args.nodes.now F l k c.args.at c.in-Some.size Vacant c.requires.there is c.loop-child.child
-          (Since k (get_or (parts F) (c.args.at + 1) (row 0)) c.put-part-end.new.out c.put-part-end.result c.loop-child.out c.loop-child.end)
-          (Since k (get_or (parts F) (c.args.at + 1) (row 0)) c.put-part-end.new.out c.put-part-end.result p.new.out p.result)
+          (Since k (get_or (parts F) (c.args.at + 1) (row 0)) c.put_part-end.new.out c.put_part-end.result c.loop-child.out c.loop-child.end)
+          (Since k (get_or (parts F) (c.args.at + 1) (row 0)) c.put_part-end.new.out c.put_part-end.result p.new.out p.result)
           (c.loop-child.invariant.2 F l) c.loop-child-test.true (omega (arith, c.loop-child.invariant.1))
-          (λ f s. since_more k (get_or (parts F) (c.args.at + 1) (row 0)) c.put-part-end.new.out c.put-part-end.result c.loop-child.out c.put-next.new.out p.new.out c.loop-child.end c.put-next.result p.result f child
+          (λ f s. since_more k (get_or (parts F) (c.args.at + 1) (row 0)) c.put_part-end.new.out c.put_part-end.result c.loop-child.out c.put-next.new.out p.new.out c.loop-child.end c.put-next.result p.result f child
           first_fits next_fits gap-wrote gap_ends child-wrote child-ends s)
           Vacant c.size-child.result c.size-child.ensures,
     )
@@ -141,17 +141,17 @@ pub put-requires : goal.put-requires
 put-requires t c =
     let is : get_or c.args.nodes.now c.args.at Vacant ≡ inner c.in-Some.kind c.in-Some.size = inner_some _ c.in-Some.kind c.in-Some.size (sym c.in-Some.is ∙ c.inner.ensures) in
     let (F, l) = c.requires.laid in
-    omega (arith, ends_last c.args.nodes.now F l c.in-Some.kind c.args.at c.in-Some.size c.requires.there is c.args.inside c.args.start (length c.args.out.now) (c.requires.room F l) c.loop-child.child c.put-part-end.new.out c.put-part-end.result c.loop-child.out c.loop-child.end (c.loop-child.invariant.2 F l) (omega (arith, ap length c.brackets.ensures.0, c.put-opened.ensures.ends, c.put-part-end.ensures.ends F l, ap (λ b. length (formula_text b (get_or (parts F) (c.args.at + 1) (row 0)))) c.encloses.ensures)) c.loop-child-test.false, c.requires.room F l, ap length c.brackets.ensures.1, c.loop-child.auto.out)
+    omega (arith, ends_last c.args.nodes.now F l c.in-Some.kind c.args.at c.in-Some.size c.requires.there is c.args.inside c.args.start (length c.args.out.now) (c.requires.room F l) c.loop-child.child c.put_part-end.new.out c.put_part-end.result c.loop-child.out c.loop-child.end (c.loop-child.invariant.2 F l) (omega (arith, ap length c.brackets.ensures.0, c.put-opened.ensures.ends, c.put_part-end.ensures.ends F l, ap (λ b. length (formula_text b (get_or (parts F) (c.args.at + 1) (row 0)))) c.encloses.ensures)) c.loop-child-test.false, c.requires.room F l, ap length c.brackets.ensures.1, c.loop-child.auto.out)
 
 pub returns : goal.returns
 returns t c =
     let is : get_or c.args.nodes.now c.args.at Vacant ≡ inner c.in-Some.kind c.in-Some.size = inner_some _ c.in-Some.kind c.in-Some.size (sym c.in-Some.is ∙ c.inner.ensures) in
     record {
-      ends = λ F l. omega (arith, ends_last c.args.nodes.now F l c.in-Some.kind c.args.at c.in-Some.size c.requires.there is c.args.inside c.args.start (length c.args.out.now) (c.requires.room F l) c.loop-child.child c.put-part-end.new.out c.put-part-end.result c.loop-child.out c.loop-child.end (c.loop-child.invariant.2 F l) (omega (arith, ap length c.brackets.ensures.0, c.put-opened.ensures.ends, c.put-part-end.ensures.ends F l, ap (λ b. length (formula_text b (get_or (parts F) (c.args.at + 1) (row 0)))) c.encloses.ensures)) c.loop-child-test.false, c.put.ensures.ends, ap length c.brackets.ensures.1);
-      wrote = λ F l. all_written c.args.nodes.now F l c.in-Some.kind c.args.at c.in-Some.size c.requires.there is c.args.inside c.args.start (length c.args.out.now) (c.requires.room F l) c.loop-child.child c.put-part-end.new.out c.put-part-end.result c.loop-child.out c.loop-child.end (c.loop-child.invariant.2 F l) (omega (arith, ap length c.brackets.ensures.0, c.put-opened.ensures.ends, c.put-part-end.ensures.ends F l, ap (λ b. length (formula_text b (get_or (parts F) (c.args.at + 1) (row 0)))) c.encloses.ensures)) c.loop-child-test.false c.args.out.now c.put-opened.new.out c.put.new.out c.put-opened.result
+      ends = λ F l. omega (arith, ends_last c.args.nodes.now F l c.in-Some.kind c.args.at c.in-Some.size c.requires.there is c.args.inside c.args.start (length c.args.out.now) (c.requires.room F l) c.loop-child.child c.put_part-end.new.out c.put_part-end.result c.loop-child.out c.loop-child.end (c.loop-child.invariant.2 F l) (omega (arith, ap length c.brackets.ensures.0, c.put-opened.ensures.ends, c.put_part-end.ensures.ends F l, ap (λ b. length (formula_text b (get_or (parts F) (c.args.at + 1) (row 0)))) c.encloses.ensures)) c.loop-child-test.false, c.put.ensures.ends, ap length c.brackets.ensures.1);
+      wrote = λ F l. all_written c.args.nodes.now F l c.in-Some.kind c.args.at c.in-Some.size c.requires.there is c.args.inside c.args.start (length c.args.out.now) (c.requires.room F l) c.loop-child.child c.put_part-end.new.out c.put_part-end.result c.loop-child.out c.loop-child.end (c.loop-child.invariant.2 F l) (omega (arith, ap length c.brackets.ensures.0, c.put-opened.ensures.ends, c.put_part-end.ensures.ends F l, ap (λ b. length (formula_text b (get_or (parts F) (c.args.at + 1) (row 0)))) c.encloses.ensures)) c.loop-child-test.false c.args.out.now c.put-opened.new.out c.put.new.out c.put-opened.result
           (omega (arith, c.requires.room F l))
           (c.put-opened.ensures.wrote ∙ ap (over c.args.out.now c.args.start) c.brackets.ensures.0)
           (c.put-opened.ensures.ends ∙ ap (λ x. c.args.start + length x) c.brackets.ensures.0)
-          (c.put-part-end.ensures.wrote F l ∙ ap (λ b. over c.put-opened.new.out c.put-opened.result (formula_text b (get_or (parts F) (c.args.at + 1) (row 0)))) c.encloses.ensures)
+          (c.put_part-end.ensures.wrote F l ∙ ap (λ b. over c.put-opened.new.out c.put-opened.result (formula_text b (get_or (parts F) (c.args.at + 1) (row 0)))) c.encloses.ensures)
           (c.put.ensures.wrote ∙ ap (over c.loop-child.out c.loop-child.end) c.brackets.ensures.1);
     }

@@ -5,8 +5,8 @@ use Rattle.tree.proofs.Progress.{Progress}
 use Rattle.tree.proofs.TextTurns.{Since}
 use Rattle.tree.proofs.form.+put_part.Given as goal
 
-abbrev pub decreases-put-part : goal.decreases-put-part
-decreases-put-part l = length l.nodes.now - l.at
+abbrev pub decreases-put_part : goal.decreases-put_part
+decreases-put_part l = length l.nodes.now - l.at
 
 abbrev pub invariant-loop-child : goal.invariant-loop-child
 invariant-loop-child l = (l.at + 1 ≤ l.child) × (l.at + l.size ≤ length l.nodes) × ((F : Form) → l.nodes ≡ laid F

@@ -41,25 +41,25 @@ loop-i-preserved g c =
       | in-default w ↦ subst P (sym w.pairs-is) (filled_other (means s.mean) leaf ns i ps w.in-default.not-Row c.loop-i.invariant.0, c.loop-i.invariant.1)
     ]
 
-pub returns-then-is-empty : goal.returns-then-is-empty
-returns-then-is-empty g c =
+pub returns-then-is_empty : goal.returns-then-is_empty
+returns-then-is_empty g c =
     let s = g.S.Scale in
     let ns = c.args.nodes.now in
     let ins = c.args.ins.now in
     let outs = c.args.outs.now in
     record {
       each = all_sums s.ring s.mean ns ins outs c.loop-i.pairs c.fold.new.values c.loop-i.i (omega arith) c.loop-i.invariant.0 c.fold.ensures.worked;
-      answer = λ F l o. no_sums s.ring s.mean ns ins outs F l (eqb-true _ _ (sym c.if-is-empty.ensures)) (c.nought.result, c.unit.result) c.nought.ensures c.unit.ensures;
+      answer = λ F l o. no_sums s.ring s.mean ns ins outs F l (eqb-true _ _ (sym c.if-is_empty.ensures)) (c.nought.result, c.unit.result) c.nought.ensures c.unit.ensures;
       beyond = c.fold.ensures.beyond ∙ c.loop-i.invariant.1;
     }
 
-pub returns-else-is-empty : goal.returns-else-is-empty
-returns-else-is-empty g c =
+pub returns-else-is_empty : goal.returns-else-is_empty
+returns-else-is_empty g c =
     let s = g.S.Scale in
     let ns = c.args.nodes.now in
     let ins = c.args.ins.now in
     let outs = c.args.outs.now in
-    let n = eqb-false (length ns) 0 (sym c.if-is-empty.ensures) in
+    let n = eqb-false (length ns) 0 (sym c.if-is_empty.ensures) in
     record {
       each = all_sums s.ring s.mean ns ins outs c.loop-i.pairs c.fold.new.values c.loop-i.i (omega arith) c.loop-i.invariant.0 c.fold.ensures.worked;
       answer = λ F l o. first_sums s.ring s.mean ns ins outs F l (omega arith) c.fold.new.values c.index-pairs-0.result c.index-pairs-0.is

@@ -6,6 +6,6 @@ use Rattle.worked.proofs.tests.count_under_or.Goals as goal
 pub evaluate-requires : goal.evaluate-requires
 evaluate-requires c =
     let rs = c.args.rows.now in
-    let l = rows_laid Or rs c.requires.two c.requires.order _ c.lay-rows-end.new.nodes c.lay-rows-end.result c.lay-rows-end.ensures.laid (omega (arith, c.lay-rows-end.ensures.ends)) in
+    let l = rows_laid Or rs c.requires.two c.requires.order _ c.lay_rows-end.new.nodes c.lay_rows-end.result c.lay_rows-end.ensures.laid (omega (arith, c.lay_rows-end.ensures.ends)) in
     let p = rows_placed Or rs c.requires.two c.requires.order _ l 32 c.requires.small in
-    record { laid = (rows_form Or rs c.requires.two c.requires.order, l); placed = (p, p); room = omega (arith, length-take c.lay-rows-end.result c.lay-rows-end.new.nodes, c.lay-rows-end.ensures.ends) }
+    record { laid = (rows_form Or rs c.requires.two c.requires.order, l); placed = (p, p); room = omega (arith, length-take c.lay_rows-end.result c.lay_rows-end.new.nodes, c.lay_rows-end.ensures.ends) }

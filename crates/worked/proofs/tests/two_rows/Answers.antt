@@ -8,5 +8,5 @@ chance-requires c =
     let k = c.args.kind in
     let rs = 0 ∷ 1 ∷ [] in
     let a = ascending 0 (1 ∷ []) refl in
-    let l = rows_laid k rs (omega arith) a (replicate 3 Vacant) c.lay-rows-end.new.nodes c.lay-rows-end.result c.lay-rows-end.ensures.laid (omega (arith, c.lay-rows-end.ensures.ends)) in
-    record { laid = (rows_form k rs (omega arith) a, l); few = omega (arith, length-take c.lay-rows-end.result c.lay-rows-end.new.nodes, c.lay-rows-end.ensures.ends); placed = rows_placed k rs (omega arith) a _ l 2 (omega arith, (omega arith, tt)) }
+    let l = rows_laid k rs (omega arith) a (replicate 3 Vacant) c.lay_rows-end.new.nodes c.lay_rows-end.result c.lay_rows-end.ensures.laid (omega (arith, c.lay_rows-end.ensures.ends)) in
+    record { laid = (rows_form k rs (omega arith) a, l); few = omega (arith, length-take c.lay_rows-end.result c.lay_rows-end.new.nodes, c.lay_rows-end.ensures.ends); placed = rows_placed k rs (omega arith) a _ l 2 (omega arith, (omega arith, tt)) }

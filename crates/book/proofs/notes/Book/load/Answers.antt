@@ -14,7 +14,7 @@ pub returns-in-Err : goal.returns-in-Err
 returns-in-Err c =
     let a = c.in-Err.ensures in
     record {
-      judged = load_faulty c.args.self.now c.args.file.now c.in-Err.fault c.of-file.result a.answer c.of-file.ensures;
+      judged = load_faulty c.args.self.now c.args.file.now c.in-Err.fault c.of_file.result a.answer c.of_file.ensures;
       one = load_one (ledger c.args.self.now) c.args.file.now;
     }
 
@@ -27,21 +27,21 @@ returns-then-table-ge8 c =
       one = load_one (ledger c.args.self.now) c.args.file.now;
     }
 
-pub sure-rows-requires : goal.sure-rows-requires
-sure-rows-requires c =
+pub sure_rows-requires : goal.sure_rows-requires
+sure_rows-requires c =
     let a = c.in-Ok.ensures.answer in
     (length a.0, a.1, a.3.ahead, load_few c.args.self.now c.args.file.now c.in-Ok.file a)
 
-pub returns-in-err-sure-rows : goal.returns-in-err-sure-rows
-returns-in-err-sure-rows c =
+pub returns-in_err-sure_rows : goal.returns-in_err-sure_rows
+returns-in_err-sure_rows c =
     let b = c.args.self.now in
     let a = c.in-Ok.ensures in
     let n = ap length c.widths-table.ensures in
     let p = err_from_is_err_and c.from-residual.result c.from-residual.ensures.1 in
-    let unsure = c.in-err-sure-rows.ensures (length a.answer.0) a.answer.1 a.answer.3.ahead in
+    let unsure = c.in_err-sure_rows.ensures (length a.answer.0) a.answer.1 a.answer.3.ahead in
     record {
       judged = subst (λ r. Loaded b c.args.file.now r b) (sym (p.1 ∙ ap Err p.2))
-          (load_unsure b c.args.file.now c.in-Ok.file a.answer (omega arith) c.in-err-sure-rows.field-0.0 unsure);
+          (load_unsure b c.args.file.now c.in-Ok.file a.answer (omega arith) c.in_err-sure_rows.field-0.0 unsure);
       one = load_one (ledger b) c.args.file.now;
     }
 
@@ -62,18 +62,18 @@ returns-then-given-file-gt256 c =
     let g = ap length c.rows-given.ensures in
     record {
       judged = subst (λ k. Loaded b c.args.file.now (Err (RowsUsedUp (258 - k) 1)) b) (sym g)
-          (load_no_row b c.args.file.now c.in-Ok.file a.answer (omega arith) (c.in-ok-sure-rows.ensures (length a.answer.0) a.answer.1 a.answer.3.ahead) (omega arith));
+          (load_no_row b c.args.file.now c.in-Ok.file a.answer (omega arith) (c.in_ok-sure_rows.ensures (length a.answer.0) a.answer.1 a.answer.3.ahead) (omega arith));
       one = load_one (ledger b) c.args.file.now;
     }
 
-pub add-rows-requires : goal.add-rows-requires
-add-rows-requires c =
+pub add_rows-requires : goal.add_rows-requires
+add_rows-requires c =
     let b = c.args.self.now in
     let a = c.in-Ok.ensures in
     let n = ap length c.widths-table.ensures in
     let g = ap length c.rows-given.ensures in
-    subst (λ k. Fit (ledger c.add-table.new.self) k c.in-Ok.file.rows) (sym n)
-    (load_fits b c.args.file.now c.in-Ok.file a.answer (omega arith) (c.in-ok-sure-rows.ensures (length a.answer.0) a.answer.1 a.answer.3.ahead) c.add-table.new.self (omega arith) c.add-table.ensures)
+    subst (λ k. Fit (ledger c.add_table.new.self) k c.in-Ok.file.rows) (sym n)
+    (load_fits b c.args.file.now c.in-Ok.file a.answer (omega arith) (c.in_ok-sure_rows.ensures (length a.answer.0) a.answer.1 a.answer.3.ahead) c.add_table.new.self (omega arith) c.add_table.ensures)
 
 pub returns : goal.returns
 returns c =
@@ -81,11 +81,11 @@ returns c =
     let a = c.in-Ok.ensures in
     let n = ap length c.widths-table.ensures in
     let g = ap length c.rows-given.ensures in
-    let l = ledger c.add-table.new.self in
-    let added = c.add-rows.ensures (length a.answer.0) a.answer.1 a.answer.3.ahead in
+    let l = ledger c.add_table.new.self in
+    let added = c.add_rows.ensures (length a.answer.0) a.answer.1 a.answer.3.ahead in
     record {
-      judged = subst (λ k. Loaded b c.args.file.now (Ok k) c.add-rows.new.self) (sym n)
-          (load_done b c.args.file.now c.in-Ok.file a.answer (omega arith) (c.in-ok-sure-rows.ensures (length a.answer.0) a.answer.1 a.answer.3.ahead) c.add-table.new.self c.add-rows.new.self (omega arith) c.add-table.ensures
+      judged = subst (λ k. Loaded b c.args.file.now (Ok k) c.add_rows.new.self) (sym n)
+          (load_done b c.args.file.now c.in-Ok.file a.answer (omega arith) (c.in_ok-sure_rows.ensures (length a.answer.0) a.answer.1 a.answer.3.ahead) c.add_table.new.self c.add_rows.new.self (omega arith) c.add_table.ensures
           (added ∙ ap (λ k. with_rows l (l.rows ++ map (from_file k) (map row_of a.answer.1))) n));
       one = load_one (ledger b) c.args.file.now;
     }

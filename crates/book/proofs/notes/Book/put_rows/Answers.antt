@@ -10,13 +10,13 @@ use Rattle.book.proofs.notes.Book.put_rows.Goals as goal
 pub loop-row-init : goal.loop-row-init
 loop-row-init c = (wrote_none c.args.out.now c.args.at (omega (arith, c.requires.room)), omega arith)
 
-pub loop-row-preserved-then-not-is-written : goal.loop-row-preserved-then-not-is-written
-loop-row-preserved-then-not-is-written c =
+pub loop-row-preserved-then-not-is_written : goal.loop-row-preserved-then-not-is_written
+loop-row-preserved-then-not-is_written c =
     let same = rows_text_same c.args.width c.args.table c.rows-rows.result.now c.loop-row.row-index c.loop-row-test.true (search rules) in
     (subst (λ s. Wrote c.args.out.now c.args.at s c.loop-row.out c.loop-row.end) (sym same) c.loop-row.invariant.0, omega (arith, c.loop-row.invariant.1))
 
-pub to-file-requires : goal.to-file-requires
-to-file-requires c =
+pub to_file-requires : goal.to_file-requires
+to_file-requires c =
     let b = c.args.self.now in
     let i = c.loop-row.row-index in
     let n = ap length c.rows-rows.ensures in
@@ -24,8 +24,8 @@ to-file-requires c =
     let e = ap (λ rs. (get_or rs i absent).sureness) c.rows-rows.ensures in
     omega arith
 
-pub put-row-end-requires : goal.put-row-end-requires
-put-row-end-requires c =
+pub put_row-end-requires : goal.put_row-end-requires
+put_row-end-requires c =
     let n = ap length c.rows-rows.ensures ∙ rows_counted c.args.self.now in
     (c.requires.narrow, omega (arith, c.requires.room, c.loop-row.invariant.1, c.args.self.now.few.1))
 
@@ -34,11 +34,11 @@ loop-row-preserved c =
     let w = c.args.width in
     let i = c.loop-row.row-index in
     let rows = c.rows-rows.result.now in
-    let p = c.put-row-end.ensures in
+    let p = c.put_row-end.ensures in
     let e = ap (row_text w) c.to_file.ensures in
     let grown = rows_text_more w c.args.table rows i c.loop-row-test.true (search rules) in (
-      subst (λ s. Wrote c.args.out.now c.args.at s c.put-row-end.new.out c.put-row-end.result) (ap (λ x. rows_text w c.args.table (take i rows) ++ x) e ∙ sym grown)
-          (wrote_more c.args.out.now c.args.at (rows_text w c.args.table (take i rows)) c.loop-row.out c.loop-row.end (row_text w c.to_file.result) c.put-row-end.new.out c.put-row-end.result (omega (arith, c.requires.room)) c.loop-row.invariant.0 p.wrote p.ends),
+      subst (λ s. Wrote c.args.out.now c.args.at s c.put_row-end.new.out c.put_row-end.result) (ap (λ x. rows_text w c.args.table (take i rows) ++ x) e ∙ sym grown)
+          (wrote_more c.args.out.now c.args.at (rows_text w c.args.table (take i rows)) c.loop-row.out c.loop-row.end (row_text w c.to_file.result) c.put_row-end.new.out c.put_row-end.result (omega (arith, c.requires.room)) c.loop-row.invariant.0 p.wrote p.ends),
       omega (arith, p.short, c.loop-row.invariant.1),
     )
 

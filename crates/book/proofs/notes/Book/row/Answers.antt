@@ -9,8 +9,8 @@ new-requires c =
     let w = table_wide c.args.self.now c.args.table (search rules) in
     omega (arith, c.if-cells-widths.false ∙ ap (λ ws. get_or ws c.args.table 0) c.widths-widths.ensures)
 
-pub add-row-requires : goal.add-row-requires
-add-row-requires c =
+pub add_row-requires : goal.add_row-requires
+add_row-requires c =
     let ws = (ledger c.args.self.now).widths in
     let same = c.if-cells-widths.false ∙ ap (λ xs. get_or xs c.args.table 0) c.widths-widths.ensures in
     let padded = new_padded ws c.args.cells.now c.args.table c.args.sureness same in
