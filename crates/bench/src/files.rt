@@ -17,7 +17,7 @@ fn full_size(rt: &HostRuntime) -> io::Result<Vec<u8>> {
 
 // The number of rows, and their sureness summed, each row walked.
 fn read(file: &[u8]) -> (usize, u64) {
-    let Ok(table) = csv::read(file) else {
+    let Ok(table) = table_files::read(file) else {
         return (0, 0);
     };
     let mut rows = table.rows;

@@ -10,9 +10,9 @@ use Rattle.std.proofs.lemmas.List.{flat_map_more}
 use Rattle.std.proofs.lemmas.Bool.{and_parts}
 use Rattle.text.specs.Over.{over}
 use Rattle.text.proofs.Writing.{then}
-use Rattle.csv.specs.declared.Row.{Row as FileRow}
-use Rattle.csv.specs.Written.{ReadsBack, RowOfWidth, fields, header_text, names, row_text}
-use Rattle.csv.proofs.Back.{written_reads_back}
+use Rattle.table_files.specs.declared.Row.{Row as FileRow}
+use Rattle.table_files.specs.Written.{ReadsBack, RowOfWidth, fields, header_text, names, row_text}
+use Rattle.table_files.proofs.Back.{written_reads_back}
 use Rattle.book.specs.declared.notes.Book.{Book}
 use Rattle.book.specs.declared.rows.Row.{Row}
 use Rattle.book.specs.Books.{ledger, Obeys}

@@ -7,14 +7,14 @@ use lib.Seq.{drop-nil, get_or-append_seam}
 use borrow.Author.Tests.{lt-leb}
 use Rattle.std.specs.List.{AllByRecursion as All}
 use Rattle.std.proofs.ByRecursion.{All-push}
-use Rattle.csv.specs.declared.Fault.{Fault}
-use Rattle.csv.specs.declared.Row.{Row as FileRow}
-use Rattle.csv.specs.declared.Rows.{Rows}
-use Rattle.csv.specs.declared.TableFile.{TableFile}
-use Rattle.csv.specs.Grammar.{CR, LF, Values, File, last, ended, more}
-use Rattle.csv.specs.Tables.{Ahead, Answer, Reads, Table, Wrong, cell, row_of}
-use Rattle.csv.proofs.Faults.{answered}
-use Rattle.csv.proofs.Reading.{one_reading}
+use Rattle.table_files.specs.declared.Fault.{Fault}
+use Rattle.table_files.specs.declared.Row.{Row as FileRow}
+use Rattle.table_files.specs.declared.Rows.{Rows}
+use Rattle.table_files.specs.declared.TableFile.{TableFile}
+use Rattle.table_files.specs.Grammar.{CR, LF, Values, File, last, ended, more}
+use Rattle.table_files.specs.Tables.{Ahead, Answer, Reads, Table, Wrong, cell, row_of}
+use Rattle.table_files.proofs.Faults.{answered}
+use Rattle.table_files.proofs.Reading.{one_reading}
 use Rattle.book.specs.declared.notes.Book.{Book}
 use Rattle.book.specs.declared.refusals.Refusal.{Refusal}
 use Rattle.book.specs.declared.refusals.Refusal.TheVariants.{TablesUsedUp, RowsUsedUp}

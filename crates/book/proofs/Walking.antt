@@ -1,10 +1,10 @@
 -- A walk over the rows of a file, row by row.
 use Rattle.std.proofs.Common.{◌≡◌, ℕ, List, [], ◌∷◌, ◌++◌, map, Some, Option, sym, ap, ◌∙◌, subst, append_assoc}
 use mathlib.Core.List.{map-append}
-use Rattle.csv.specs.declared.Row.{Row}
-use Rattle.csv.specs.declared.Rows.{Rows}
-use Rattle.csv.specs.Grammar.{Values}
-use Rattle.csv.specs.Tables.{Ahead, Walked, row_of}
+use Rattle.table_files.specs.declared.Row.{Row}
+use Rattle.table_files.specs.declared.Rows.{Rows}
+use Rattle.table_files.specs.Grammar.{Values}
+use Rattle.table_files.specs.Tables.{Ahead, Walked, row_of}
 
 -- what a step of a walk says of the rows before it
 abbrev pub Steps : Rows → Option Row → Rows → Type 0

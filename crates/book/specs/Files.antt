@@ -1,10 +1,10 @@
 -- Table files into a ledger and out of it.
 use Rattle.std.specs.Prelude.{◌≡◌, ℕ, ◌+◌, ◌-◌, ◌<◌, ◌≤◌, Bool, not, ◌&&◌, ◌⊎◌, List, [], ◌∷◌, ◌++◌, map, length, filter, ◌==◌, nat_le, nat_lt}
-use Rattle.csv.specs.declared.Fault.{Fault}
-use Rattle.csv.specs.declared.Row.{Row as FileRow}
-use Rattle.csv.specs.Grammar.{Values}
-use Rattle.csv.specs.Written.{table_text}
-use Rattle.csv.specs.Tables.{Reads, Wrong, Table, row_of}
+use Rattle.table_files.specs.declared.Fault.{Fault}
+use Rattle.table_files.specs.declared.Row.{Row as FileRow}
+use Rattle.table_files.specs.Grammar.{Values}
+use Rattle.table_files.specs.Written.{table_text}
+use Rattle.table_files.specs.Tables.{Reads, Wrong, Table, row_of}
 use Rattle.text.specs.Over.{over}
 use Rattle.book.specs.declared.rows.Row.{Row}
 use Rattle.book.specs.Rows.{billion, from_file}

@@ -1,10 +1,10 @@
 -- For inner contracts alone: nothing here needs to be believed.
 use Rattle.std.specs.Prelude.{◌≡◌, ℕ, ◌+◌, ◌<◌, ◌≤◌, true, false, ◌⊎◌, List, map, length, Ok, Err, Result}
 use Rattle.std.specs.List.{AllByRecursion as All}
-use Rattle.csv.specs.declared.Row.{Row as FileRow}
-use Rattle.csv.specs.declared.Rows.{Rows}
-use Rattle.csv.specs.Grammar.{Values}
-use Rattle.csv.specs.Tables.{Ahead, row_of}
+use Rattle.table_files.specs.declared.Row.{Row as FileRow}
+use Rattle.table_files.specs.declared.Rows.{Rows}
+use Rattle.table_files.specs.Grammar.{Values}
+use Rattle.table_files.specs.Tables.{Ahead, row_of}
 use Rattle.book.specs.declared.refusals.Refusal.{Refusal}
 use Rattle.book.specs.declared.refusals.Refusal.TheVariants.{NoSuchRow, RowStruck}
 use Rattle.book.specs.declared.rows.Row.{Row}

@@ -2,9 +2,9 @@
 ghost use Rattle.std.specs.Prelude.{◌≡◌, ℕ, ◌+◌, ◌*◌, ◌<◌, ◌≤◌, List, ◌++◌, map, length};
 ghost use Rattle.std.specs.List.{flat_map};
 ghost use Rattle.text.specs.Over.{over};
-ghost use Rattle.csv.specs.Grammar.{Values};
-ghost use Rattle.csv.specs.Tables.{Ahead, row_of};
-ghost use Rattle.csv.specs.Written.{row_text};
+ghost use Rattle.table_files.specs.Grammar.{Values};
+ghost use Rattle.table_files.specs.Tables.{Ahead, row_of};
+ghost use Rattle.table_files.specs.Written.{row_text};
 ghost use Rattle.book.specs.Books.{ledger, Obeys};
 ghost use Rattle.book.specs.Files.{LoadJudged, LoadsBack, rows_written, write_verdict};
 ghost use Rattle.book.specs.Inner.{AllSure, Fit};
@@ -15,7 +15,7 @@ ghost use Rattle.book.specs.Rules.{Verdict, with_rows};
 use super::notes::Book;
 use super::refusals::Refusal;
 use super::rows::Row;
-use csv::Rows;
+use table_files::Rows;
 
 impl Book {
     /// Opens a table for a table file, adds its rows in file order, and answers the table's number.
@@ -23,7 +23,7 @@ impl Book {
         ensures judged { (v : Verdict ℕ Ledger) × LoadJudged (ledger self.old) file.now v × Obeys ledger v result self.old self.new }
         ensures one { (v w : Verdict ℕ Ledger) → LoadJudged (ledger self.old) file.now v → LoadJudged (ledger self.old) file.now w → v ≡ w }
     {
-        let file = match csv::read(file) {
+        let file = match table_files::read(file) {
             Ok(file) => file,
             Err(fault) => return Err(Refusal::of_file(fault)),
         };
@@ -57,7 +57,7 @@ impl Book {
             return Err(Refusal::MemoryShort);
         }
         let width = widths[table];
-        let end = csv::put_header(width, out, 0);
+        let end = table_files::put_header(width, out, 0);
         Ok(self.put_rows(table, width, out, end))
     }
 
@@ -74,7 +74,7 @@ impl Book {
             if !row.is_written(table) {
                 continue;
             }
-            end = csv::put_row(row.to_file(), width, out, end);
+            end = table_files::put_row(row.to_file(), width, out, end);
         }
         end
     }

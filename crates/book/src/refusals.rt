@@ -2,7 +2,7 @@
 ghost use Rattle.std.specs.Prelude.{◌≡◌, [], ◌∷◌};
 ghost use Rattle.book.specs.Refusals.{told, fault_told};
 
-use csv::Fault;
+use table_files::Fault;
 
 /// A refusal. Each case has a number and two places, which `number` and `places` tell. Records and fields are counted from 1;
 /// 0 and 0 is no place.

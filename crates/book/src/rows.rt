@@ -39,7 +39,7 @@ impl Row {
     }
 
     // A row of a file as a row of a table.
-    pub(super) fn from_file(table: usize, row: csv::Row) -> Row
+    pub(super) fn from_file(table: usize, row: table_files::Row) -> Row
         ensures same { result ≡ from_file table row }
         ensures small { Small result }
         ensures four { length result.cells ≡ 4 }
@@ -54,12 +54,12 @@ impl Row {
     }
 
     // The row as a row of a file. A sureness has at most 32 bits.
-    pub(super) fn to_file(&self) -> csv::Row
+    pub(super) fn to_file(&self) -> table_files::Row
         requires { self.now.sureness < 2 ^ 32 }
         ensures { result ≡ to_file self.now }
     {
         let cells = self.cells;
-        csv::Row {
+        table_files::Row {
             cells,
             sureness: self.sureness as u32,
         }

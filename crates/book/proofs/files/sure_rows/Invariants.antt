@@ -1,4 +1,4 @@
-use Rattle.csv.specs.Tables.{bytes_left}
+use Rattle.table_files.specs.Tables.{bytes_left}
 use Rattle.book.proofs.Loading.{SureTo}
 use Rattle.book.proofs.Walking.{Passed}
 use Rattle.book.proofs.files.sure_rows.Given as goal

@@ -1,4 +1,4 @@
-use Rattle.csv.specs.Tables.{bytes_left}
+use Rattle.table_files.specs.Tables.{bytes_left}
 use Rattle.book.specs.Books.{ledger}
 use Rattle.book.proofs.Loading.{Added}
 use Rattle.book.proofs.Walking.{Passed}

@@ -1,7 +1,7 @@
 use Rattle.std.proofs.Common.{◌-◌, ◌++◌, map, length, Ok, Err, sym, ap, ◌∙◌, subst, arith}
 use Rattle.book.specs.declared.refusals.Refusal.TheVariants.{RowsUsedUp}
 use Rattle.std.proofs.lemmas.Result.{err_from_is_err_and}
-use Rattle.csv.specs.Tables.{row_of}
+use Rattle.table_files.specs.Tables.{row_of}
 use Rattle.book.specs.Books.{ledger}
 use Rattle.book.specs.Inner.{Fit}
 use Rattle.book.specs.Rows.{from_file}

@@ -1,0 +1,13 @@
+use Rattle.std.proofs.Common.{◌≡◌, ℕ, ◌+◌, ◌-◌, ◌≤◌, List, length, drop}
+use Rattle.table_files.specs.Tables.{Says}
+use Rattle.table_files.proofs.Through.{Through}
+use Rattle.table_files.proofs.count_rows.Given as goal
+
+abbrev pub invariant-loop-at : goal.invariant-loop-at
+invariant-loop-at l =
+    (l.at ≤ length l.text)
+    × (l.count + l.start ≤ l.at)
+    × ((rows : List (List (List ℕ))) → Says (drop l.start l.text) rows → Through (λ values. length values ≡ l.fields) l.text l.at l.count rows)
+
+abbrev pub decreases-loop-at : goal.decreases-loop-at
+decreases-loop-at l = length l.text - l.at
