@@ -11,7 +11,7 @@ loop-byte-init c = sofar_none c.args.text.now
 pub advance-requires : goal.advance-requires
 advance-requires c =
     let k = sofar_few c.args.text.now c.loop-byte.byte-index c.loop-byte.reader c.loop-byte.invariant in
-    (omega (arith, c.well-formed), omega (arith, c.well-formed))
+    (omega (arith, c.well_formed), omega (arith, c.well_formed))
 
 pub returns-then-not-advance : goal.returns-then-not-advance
 returns-then-not-advance c =

@@ -21,5 +21,5 @@ loop-at-preserved c =
       omega (arith, c.loop-at.invariant.1),
       λ rows h few.
           rows_more c.args.text.now c.loop-at.at c.loop-at.count rows few (c.loop-at.invariant.2 rows h few) (omega arith) c.record_at-record.result c.record_at-record.ensures.found
-          c.row.result c.row.ensures c.in-default.not-Err,
+          c.row.result c.row.ensures c.in_default.not-Err,
     )

@@ -25,13 +25,13 @@ returns-then-digit-lt48 c = λ k.
       | then-digit-lt48-via-else-digit-lt48+then-digit-gt57 w ↦ omega (arith, w.if-digit-gt57.true)
     ]
 
-pub overflow-mul-n : goal.overflow-mul-n
-overflow-mul-n c =
+pub overflow_mul-n : goal.overflow_mul-n
+overflow_mul-n c =
     let h = few c.args.digits.now c.loop-digit.digit-index (omega arith) (omega arith) c.loop-digit.invariant.0 in
     omega (arith, c.loop-digit.invariant.1)
 
-pub overflow-add-n : goal.overflow-add-n
-overflow-add-n c =
+pub overflow_add-n : goal.overflow_add-n
+overflow_add-n c =
     let h = few c.args.digits.now c.loop-digit.digit-index (omega arith) (omega arith) c.loop-digit.invariant.0 in
     omega (arith, c.loop-digit.invariant.1, c.from.ensures)
 

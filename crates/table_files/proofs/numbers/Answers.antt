@@ -12,12 +12,12 @@ content-requires c =
     subst (Within c.args.text.now) (sym (left_first c.args.text.now c.args.places.now c.loop-left.field c.loop-left.left.now c.loop-left.numbers c.loop-left.invariant))
     (c.requires.1 c.loop-left.field)
 
-pub returns-in-default-field_number : goal.returns-in-default-field_number
-returns-in-default-field_number c = λ values l s.
+pub returns-in_default-field_number : goal.returns-in_default-field_number
+returns-in_default-field_number c = λ values l s.
     let left = c.loop-left.left.now in
     let some : 0 < length left = search rules in
     wrong_here c.args.text.now c.args.places.now c.loop-left.field left c.loop-left.numbers c.loop-left.invariant
-    some _ (take_rest left 1) (λ v h. c.in-default-field_number.ensures v (c.content.ensures v h)) values (l, s)
+    some _ (take_rest left 1) (λ v h. c.in_default-field_number.ensures v (c.content.ensures v h)) values (l, s)
 
 pub loop-left-preserved : goal.loop-left-preserved
 loop-left-preserved c =

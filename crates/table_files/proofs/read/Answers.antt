@@ -9,25 +9,25 @@ returns-then-text-gt65536 c = answered c.args.text.now (Err TooLong) (omega arit
 pub returns-in-Err : goal.returns-in-Err
 returns-in-Err c = answered c.args.text.now (Err (Grammar c.in-Err.place)) (omega arith, c.in-Err.ensures)
 
-pub returns-in-default-width : goal.returns-in-default-width
-returns-in-default-width c =
-    answer_header c.args.text.now (omega arith) c.in-default.ensures c.record_at-header.result c.record_at-header.ensures.found
-    c.width.result c.width.ensures c.in-default-width.is
+pub returns-in_default-width : goal.returns-in_default-width
+returns-in_default-width c =
+    answer_header c.args.text.now (omega arith) c.in_default.ensures c.record_at-header.result c.record_at-header.ensures.found
+    c.width.result c.width.ensures c.in_default-width.is
 
 pub returns-in-Err-count_rows : goal.returns-in-Err-count_rows
 returns-in-Err-count_rows c =
-    answer_count c.args.text.now (omega arith) c.in-default.ensures c.record_at-header.result c.record_at-header.ensures.found
+    answer_count c.args.text.now (omega arith) c.in_default.ensures c.record_at-header.result c.record_at-header.ensures.found
     c.width.result c.width.ensures c.in-Some.width c.in-Some.is c.count_rows.result c.count_rows.ensures
     c.in-Err-count_rows.place c.in-Err-count_rows.is
 
 pub returns-in-Err-check_rows : goal.returns-in-Err-check_rows
 returns-in-Err-check_rows c =
-    answer_field c.args.text.now (omega arith) c.in-default.ensures c.record_at-header.result c.record_at-header.ensures.found
+    answer_field c.args.text.now (omega arith) c.in_default.ensures c.record_at-header.result c.record_at-header.ensures.found
     c.width.result c.width.ensures c.in-Some.width c.in-Some.is c.count_rows.result c.count_rows.ensures
     c.in-Ok.count c.in-Ok.is c.check_rows.result c.check_rows.ensures c.in-Err-check_rows.place c.in-Err-check_rows.is
 
 pub returns : goal.returns
 returns c =
-    answer_file c.args.text.now (omega arith) c.in-default.ensures c.record_at-header.result c.record_at-header.ensures.found
+    answer_file c.args.text.now (omega arith) c.in_default.ensures c.record_at-header.result c.record_at-header.ensures.found
     c.width.result c.width.ensures c.in-Some.width c.in-Some.is c.count_rows.result c.count_rows.ensures
-    c.in-Ok.count c.in-Ok.is c.check_rows.result c.check_rows.ensures c.in-default-check_rows.is _ refl refl refl refl
+    c.in-Ok.count c.in-Ok.is c.check_rows.result c.check_rows.ensures c.in_default-check_rows.is _ refl refl refl refl

@@ -7,8 +7,8 @@ pub returns-then-row-gt1000000000 : goal.returns-then-row-gt1000000000
 returns-then-row-gt1000000000 c =
     unsure_here c.loop-row.«record» c.args.field c.args.rows c.loop-row.left c.next_row.new.self c.in-Some.row c.loop-row.invariant c.in-Some.ensures.walks c.if-row-gt1000000000.true
 
-pub overflow-add-record : goal.overflow-add-record
-overflow-add-record c =
+pub overflow_add-record : goal.overflow_add-record
+overflow_add-record c =
     let (n, records, a, few) = c.requires in
     let l = number_small c.loop-row.«record» c.args.rows c.loop-row.left c.next_row.new.self c.in-Some.row c.loop-row.invariant c.in-Some.ensures.walks n records a in
     omega arith

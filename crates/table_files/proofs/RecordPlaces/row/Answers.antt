@@ -11,7 +11,7 @@ numbers-requires c = (
 
 pub returns-in_err-numbers : goal.returns-in_err-numbers
 returns-in_err-numbers c = λ values records h few.
-    let p = err_from_is_err_and c.from-residual.result c.from-residual.ensures.1 in
+    let p = err_from_is_err_and c.from_residual.result c.from_residual.ensures.1 in
     let room : length c.args.self.places ≡ 5 = search rules in
     let s = standing_found c.args.text.now values records c.args.self h few room c.min-fields.result c.min-fields.ensures in
     rw (p.1, p.2) (c.in_err-numbers.ensures values s.0 s.1)

@@ -37,7 +37,7 @@ returns-in_err-sure_rows c =
     let b = c.args.self.now in
     let a = c.in-Ok.ensures in
     let n = ap length c.widths-table.ensures in
-    let p = err_from_is_err_and c.from-residual.result c.from-residual.ensures.1 in
+    let p = err_from_is_err_and c.from_residual.result c.from_residual.ensures.1 in
     let unsure = c.in_err-sure_rows.ensures (length a.answer.0) a.answer.1 a.answer.3.ahead in
     record {
       judged = subst (λ r. Loaded b c.args.file.now r b) (sym (p.1 ∙ ap Err p.2))
@@ -45,8 +45,8 @@ returns-in_err-sure_rows c =
       one = load_one (ledger b) c.args.file.now;
     }
 
-pub overflow-add-given : goal.overflow-add-given
-overflow-add-given c =
+pub overflow_add-given : goal.overflow_add-given
+overflow_add-given c =
     let b = c.args.self.now in
     let a = c.in-Ok.ensures.answer in
     let n = ap length c.rows-given.ensures in
