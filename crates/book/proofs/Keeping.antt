@@ -19,18 +19,6 @@ pub record Kept (widths : List ℕ) (tables : ℕ) (rows : List Row) (given : �
   pub padded : (r : ℕ) → r < given → Padded widths (get_or rows r absent)
   pub vacant : VacantBeyond widths tables rows given
 
--- the same as a tuple
-pub all_of : {widths : List ℕ} {tables : ℕ} {rows : List Row} {given : ℕ} → Kept widths tables rows given
-    → ((length widths ≡ 8) × (length rows ≡ 256))
-    × (((tables ≤ 8) × (given ≤ 256))
-    × (((t : ℕ) → t < tables → Wide (get_or widths t 0))
-    × (((r : ℕ) → r < given → Within tables (get_or rows r absent))
-    × (((r k : ℕ) → r < given → get_or (get_or rows r absent).cells k 0 < 4294967296)
-    × (((r : ℕ) → r < given → Padded widths (get_or rows r absent))
-    × (VacantBeyond widths tables rows given
-    × Unit {0}))))))
-all_of k = (k.sized, (k.few, (k.wide, (k.within, (k.small, (k.padded, (k.vacant, tt)))))))
-
 -- what holds of the other entries and of the new one holds of all
 each_set : {A : Type 0} (P : A → Type 0) (xs : List A) (i n : ℕ) (a d : A) → i < length xs → P a
     → ((k : ℕ) → k < n → k ≢ i → P (get_or xs k d)) → (k : ℕ) → k < n → P (get_or (set xs i a) k d)

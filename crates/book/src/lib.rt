@@ -1,5 +1,6 @@
 //! A book of survey tables: its rows by number, each with how sure the observer was, and the calls that change it.
 #![tactic(auto)]
+
 mod calls;
 mod files;
 mod notes;

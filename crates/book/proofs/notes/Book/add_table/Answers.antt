@@ -1,13 +1,14 @@
 use Rattle.std.proofs.Common.{take, ap, arith}
 use Rattle.std.proofs.lemmas.List.{take_more_set}
-use Rattle.book.proofs.Keeping.{all_of, tables_counted, table_kept}
+use Rattle.book.proofs.Keeping.{tables_counted, table_kept}
 use Rattle.book.proofs.notes.Book.add_table.Goals as goal
 
-pub invariant-of-self : goal.invariant-of-self
-invariant-of-self c =
+pub invariant_of-self : goal.invariant_of-self
+invariant_of-self c =
     let b = c.args.self.now in
     let n = tables_counted b in
-    all_of (table_kept b c.args.width (omega (arith, c.requires.room)) c.requires.lawful)
+    let k = table_kept b c.args.width (omega (arith, c.requires.room)) c.requires.lawful in
+    record { sized = k.sized; few = k.few; wide = k.wide; within = k.within; small = k.small; padded = k.padded; vacant = k.vacant }
 
 pub returns : goal.returns
 returns c =
