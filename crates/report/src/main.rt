@@ -1,6 +1,7 @@
 //! Loads the table files of the folder it is run in, `A.csv`, `B.csv` and on to the first that is missing, at most eight, and
 //! prints what the book then holds; at the first refusal it prints the refusal's record instead.
 #![tactic(auto)]
+
 use book::{Book, Refusal, Row};
 use std::io::{ErrorKind, Write};
 use std::{fs, io};
