@@ -2,7 +2,7 @@
 use Rattle.std.proofs.Common.{◌≡◌, ℕ, zero, suc, ◌+◌, ◌-◌, ◌<◌, ◌≤◌, Bool, true, false, cond, not, eqb, List, [], ◌∷◌, ◌++◌, map, length, get_or, take, drop, replicate, Ok, filter, sym, refl, ap, ◌∙◌, subst, ap₂, inr, append-nil, arith, length-append, get_or-drop, lt-ltb, eqb-true, le-leb}
 use mathlib.Core.List.{map-append}
 use lib.ListN.{length-map}
-use Rattle.std.specs.List.{flat_map, AllByRecursion as All}
+use Rattle.std.specs.List.{flat_map, AllByRecursion}
 use Rattle.std.proofs.lemmas.List.Elements.{filter_more}
 use Rattle.std.proofs.ByRecursion.{All-weaker, All-from_get_or}
 use Rattle.std.proofs.lemmas.List.Filters.{length-filter_both}
@@ -59,13 +59,13 @@ row_of_width ws t r lawful e = record {
 }
 
 -- each row that is written of a lawful ledger
-file_rows : (ws : List ℕ) (t : ℕ) (rows : List Row) → All (LawfulRow ws) rows
-    → All (λ r. RowOfWidth (get_or ws t 0) r × Sure r) (map to_file (filter (written? t) rows))
+file_rows : (ws : List ℕ) (t : ℕ) (rows : List Row) → AllByRecursion (LawfulRow ws) rows
+    → AllByRecursion (λ r. RowOfWidth (get_or ws t 0) r × Sure r) (map to_file (filter (written? t) rows))
 file_rows ws t [] lawful = tt
 file_rows ws t (r ∷ rs) lawful = go (written? t r) refl (file_rows ws t rs lawful.1)
   where
     Kept : List FileRow → Type 0
-    Kept = All (λ x. RowOfWidth (get_or ws t 0) x × Sure x)
+    Kept = AllByRecursion (λ x. RowOfWidth (get_or ws t 0) x × Sure x)
 
     go : (b : Bool) → written? t r ≡ b → Kept (map to_file (filter (written? t) rs)) → Kept (map to_file (cond b (r ∷ filter (written? t) rs) (filter (written? t) rs)))
     go true e rest = ((row_of_width ws t r lawful.0 (eqb-true r.table t (and_parts (eqb r.table t) (not r.struck) e).0), lawful.0.0.1), rest)
@@ -73,7 +73,7 @@ file_rows ws t (r ∷ rs) lawful = go (written? t r) refl (file_rows ws t rs law
 
 -- the rows of a book, as they are written of one of its tables
 module _ (b : Book) (t : ℕ) (opened : t < length (ledger b).widths) where
-  rows_good : All (λ x. RowOfWidth (width_of (ledger b) t) x × Sure x) (rows_written t (ledger b).rows)
+  rows_good : AllByRecursion (λ x. RowOfWidth (width_of (ledger b) t) x × Sure x) (rows_written t (ledger b).rows)
   rows_good = file_rows (ledger b).widths t (ledger b).rows (All-from_get_or (LawfulRow (ledger b).widths) (ledger b).rows absent (λ i h. row_lawful b i h))
 
   pub back : ReadsBack (width_of (ledger b) t) (rows_written t (ledger b).rows)

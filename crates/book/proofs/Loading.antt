@@ -5,7 +5,7 @@ use mathlib.Core.List.{map-append}
 use lib.ListN.{length-map}
 use lib.Seq.{drop-nil, get_or-append_seam}
 use borrow.Author.Tests.{lt-leb}
-use Rattle.std.specs.List.{AllByRecursion as All}
+use Rattle.std.specs.List.{AllByRecursion}
 use Rattle.std.proofs.ByRecursion.{All-push}
 use Rattle.table_files.specs.declared.Fault.{Fault}
 use Rattle.table_files.specs.declared.Row.{Row as FileRow}
@@ -28,24 +28,24 @@ use Rattle.book.specs.Rules.{Verdict, refused, accepted, with_table, with_rows}
 use Rattle.book.proofs.Walking.{Steps, Passed, passed_here}
 
 -- what holds of all holds of one in the middle
-all_middle : (xs : List FileRow) (x : FileRow) (ys : List FileRow) → All Sure (xs ++ (x ∷ ys)) → Sure x
+all_middle : (xs : List FileRow) (x : FileRow) (ys : List FileRow) → AllByRecursion Sure (xs ++ (x ∷ ys)) → Sure x
 all_middle [] x ys h = h.0
 all_middle (z ∷ zs) x ys h = all_middle zs x ys h.1
 
 -- the rows before a record are sure enough
 abbrev pub SureTo : ℕ → List FileRow → Type 0
-SureTo number rows = (number ≡ 2 + length rows) × All Sure rows
+SureTo number rows = (number ≡ 2 + length rows) × AllByRecursion Sure rows
 
 pub sure_more : (number : ℕ) (row : FileRow) → Sure row → (rows : List FileRow) → SureTo number rows → SureTo (number + 1) (rows ++ (row ∷ []))
 sure_more number row s rows q = (let l = length-append rows (row ∷ []) in omega (arith, q.0), All-push Sure rows row q.1 s)
 
 -- the tests of rows that are sure enough pass
-pub all_pass : (k field : ℕ) (rows : List FileRow) (v : Verdict ℕ Ledger) → All Sure rows → unless_unsure k field rows v ≡ v
+pub all_pass : (k field : ℕ) (rows : List FileRow) (v : Verdict ℕ Ledger) → AllByRecursion Sure rows → unless_unsure k field rows v ≡ v
 all_pass k field [] v s = refl
 all_pass k field (r ∷ rs) v s = rw (le-leb r.sureness billion s.0) (all_pass (k + 1) field rs v s.1)
 
 -- the first row that is not sure enough is refused
-first_unsure : (k field : ℕ) (rows : List FileRow) (row : FileRow) (rest : List FileRow) (v : Verdict ℕ Ledger) → All Sure rows → billion < row.sureness
+first_unsure : (k field : ℕ) (rows : List FileRow) (row : FileRow) (rest : List FileRow) (v : Verdict ℕ Ledger) → AllByRecursion Sure rows → billion < row.sureness
     → unless_unsure k field (rows ++ (row ∷ rest)) v ≡ refused (at 12 (k + length rows) field)
 first_unsure k field [] row rest v s high = rw (lt-leb row.sureness billion high, add-zero k)
 first_unsure k field (r ∷ rs) row rest v s high =
@@ -114,7 +114,7 @@ row_fits before now table from here to row fit passed steps =
     let l = ap length h.split ∙ length-append h.done (h.values ∷ h.rest) in
     let m = ap (λ (l : Ledger). length l.rows) h.so_far ∙ length-append before.rows (map (from_file table) (map row_of h.done)) in
     let k = length-map (map row_of h.done) (from_file table) ∙ length-map h.done row_of in
-    let sure : All Sure (map row_of h.done ++ (row_of h.values ∷ map row_of h.rest)) = subst (All Sure) (ap (map row_of) h.split ∙ map-append row_of h.done (h.values ∷ h.rest)) fit.sure in (
+    let sure : AllByRecursion Sure (map row_of h.done ++ (row_of h.values ∷ map row_of h.rest)) = subst (AllByRecursion Sure) (ap (map row_of) h.split ∙ map-append row_of h.done (h.values ∷ h.rest)) fit.sure in (
       omega (arith, fit.room),
       subst (λ ws. table < length ws) (sym widths) fit.opened,
       subst Sure (sym h.same) (all_middle (map row_of h.done) (row_of h.values) (map row_of h.rest) sure),
@@ -122,7 +122,7 @@ row_fits before now table from here to row fit passed steps =
     )
 
 -- a table is accepted
-pub file_accepted : (l : Ledger) (w : ℕ) (rows : List FileRow) → length l.widths < 8 → All Sure rows → length l.rows + length rows ≤ 256
+pub file_accepted : (l : Ledger) (w : ℕ) (rows : List FileRow) → length l.widths < 8 → AllByRecursion Sure rows → length l.rows + length rows ≤ 256
     → table_file_verdict l w rows ≡ accepted (length l.widths) (with_file l w rows)
 file_accepted l w rows room sure few =
     rw (lt-ltb (length l.widths) 8 room) (all_pass 2 (w + 1) rows _ sure ∙ rw (le-leb (length l.rows + length rows) 256 few))
@@ -160,7 +160,7 @@ module _ (b : Book) (text : List ℕ) (file : TableFile) (read : Answer text (Ok
     pub load_unsure : (f : Refusal) → AllSure 2 (file.width + 1) (map row_of read.1) (Err f) → Loaded b text (Err f) b
     load_unsure f unsure = refuses f (rw (lt-ltb (length (ledger b).widths) 8 room, width) (unsure _))
 
-    module _ (sure : All Sure (map row_of read.1)) where
+    module _ (sure : AllByRecursion Sure (map row_of read.1)) where
       count : length (map row_of read.1) ≡ file.count
       count = length-map read.1 row_of ∙ sym read.3.count
 

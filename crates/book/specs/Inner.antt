@@ -1,6 +1,6 @@
 -- For inner contracts alone: nothing here needs to be believed.
 use Rattle.std.specs.Prelude.{◌≡◌, ℕ, ◌+◌, ◌<◌, ◌≤◌, true, false, ◌⊎◌, List, map, length, Ok, Err, Result}
-use Rattle.std.specs.List.{AllByRecursion as All}
+use Rattle.std.specs.List.{AllByRecursion}
 use Rattle.table_files.specs.declared.Row.{Row as FileRow}
 use Rattle.table_files.specs.declared.Rows.{Rows}
 use Rattle.table_files.specs.Grammar.{Values}
@@ -25,7 +25,7 @@ Sure r = r.sureness ≤ billion
 
 -- whether each row is sure enough, as a result; a refusal is then the verdict, whatever tests follow
 abbrev pub AllSure : (number field : ℕ) → List FileRow → Result (Unit {0}) Refusal → Type 0
-AllSure number field rows (Ok u) = All Sure rows
+AllSure number field rows (Ok u) = AllByRecursion Sure rows
 AllSure number field rows (Err f) = (v : Verdict ℕ Ledger) → unless_unsure number field rows v ≡ refused (told f)
 
 -- the file has a walk before it over rows of a table's width, all sure enough, and the ledger has room for them
@@ -33,5 +33,5 @@ pub record Fit (l : Ledger) (table : ℕ) (walk : Rows) : Type 0 where
   pub opened : table < length l.widths
   pub records : List Values
   pub ahead : Ahead (width_of l table + 1) walk records
-  pub sure : All Sure (map row_of records)
+  pub sure : AllByRecursion Sure (map row_of records)
   pub room : length l.rows + length records ≤ 256

@@ -1,6 +1,6 @@
 -- A header and rows as they are written are a table file, with the same rows.
 use Rattle.std.proofs.Common.{◌≡◌, ℕ, zero, suc, ◌+◌, ◌-◌, ◌*◌, ◌^◌, ◌<◌, ◌≤◌, ltb, List, [], ◌∷◌, ◌++◌, map, length, get_or, take, decimal, sym, refl, ap, ◌∙◌, subst, ap₂, inl, inr, append_assoc, arith, length-append, length-take}
-use Rattle.std.specs.List.{flat_map, AllByRecursion as All}
+use Rattle.std.specs.List.{flat_map, AllByRecursion}
 use Rattle.std.specs.Str.Parse.{AllDigits, digits_value}
 use Rattle.std.proofs.lemmas.Fmt.{decimal_is_IsNumeral, decimal_nonempty}
 use Rattle.std.proofs.ByRecursion.{All-get_or, All-append}
@@ -27,7 +27,7 @@ bare_digits (b ∷ ds) d =
 bare_decimal : (n : ℕ) → n < 2 ^ 64 → Bare (decimal n)
 bare_decimal n h = bare_digits (decimal n) (decimal_is_IsNumeral n h).0.1
 
-bare_columns : (w : ℕ) → w < 2 ^ 64 → All Bare (columns w)
+bare_columns : (w : ℕ) → w < 2 ^ 64 → AllByRecursion Bare (columns w)
 bare_columns zero h = tt
 bare_columns (suc w) h =
     All-append Bare (columns w) (column (suc w) ∷ []) (bare_columns w (omega arith))
@@ -39,14 +39,14 @@ bare_sure =
     (NonEscaped.more (inr (inr (omega arith, omega arith)))
     (NonEscaped.more (inr (inr (omega arith, omega arith))) (NonEscaped.more (inr (inr (omega arith, omega arith))) NonEscaped.none)))
 
-bare_map : (ns : List ℕ) (w : ℕ) → ((k : ℕ) → get_or ns k 0 < 2 ^ 32) → All Bare (map decimal (take w ns))
+bare_map : (ns : List ℕ) (w : ℕ) → ((k : ℕ) → get_or ns k 0 < 2 ^ 32) → AllByRecursion Bare (map decimal (take w ns))
 bare_map ns zero h = tt
 bare_map [] (suc w) h = tt
 bare_map (n ∷ ns) (suc w) h = (bare_decimal n (let k = h 0 in omega arith), bare_map ns w (λ k. h (suc k)))
 
 -- a line is a record
 
-line_record : (front : List (List ℕ)) (last : List ℕ) → All Bare front → Bare last → Record (flat_map piece front ++ last) (front ++ (last ∷ []))
+line_record : (front : List (List ℕ)) (last : List ℕ) → AllByRecursion Bare front → Bare last → Record (flat_map piece front ++ last) (front ++ (last ∷ []))
 line_record [] last h l = Record.last (Field.plain l)
 line_record (v ∷ vs) last h l =
     subst (λ s. Record s (v ∷ (vs ++ (last ∷ []))))
@@ -61,7 +61,7 @@ file_more rc (b ∷ s) o fl = File.more rc fl
 line_more : (front : List (List ℕ)) (last s : List ℕ) → line front last ++ s ≡ (flat_map piece front ++ last) ++ (CR ∷ LF ∷ s)
 line_more front last s = simp append_assoc
 
-lines_file : (w : ℕ) (front : List (List ℕ)) (last : List ℕ) (rows : List Row) → All Bare front → Bare last → All (RowOfWidth w) rows →
+lines_file : (w : ℕ) (front : List (List ℕ)) (last : List ℕ) (rows : List Row) → AllByRecursion Bare front → Bare last → AllByRecursion (RowOfWidth w) rows →
     File (line front last ++ flat_map (row_text w) rows) ((front ++ (last ∷ [])) ∷ map (fields w) rows)
 lines_file w front last [] h l a = rw (line_more front last []) (File.ended (line_record front last h l))
 lines_file w front last (row ∷ rows) h l a =
@@ -94,7 +94,7 @@ decimal_numeral n h =
     let v = r.1 in
     (decimal_nonempty n (omega arith), decimal_short n h, r.0.1, omega arith)
 
-numerals : (ns : List ℕ) (w : ℕ) → ((k : ℕ) → get_or ns k 0 < 2 ^ 32) → All Numeral (map decimal (take w ns))
+numerals : (ns : List ℕ) (w : ℕ) → ((k : ℕ) → get_or ns k 0 < 2 ^ 32) → AllByRecursion Numeral (map decimal (take w ns))
 numerals ns zero h = tt
 numerals [] (suc w) h = tt
 numerals (n ∷ ns) (suc w) h = (decimal_numeral n (h 0), numerals ns w (λ k. h (suc k)))
@@ -147,16 +147,16 @@ module _ (w : ℕ) (le : w ≤ 4) (row : Row) (h : RowOfWidth w row) where
       rows (_ ∷ _ ∷ _ ∷ _ ∷ []) l p q r u v = cc
       rows (_ ∷ _ ∷ _ ∷ _ ∷ _ ∷ cs) l p q r u v = absurd (omega arith)
 
-rows_lawful : (w : ℕ) → w ≤ 4 → (rows : List Row) → All (RowOfWidth w) rows → All (LawfulRow (length (names w))) (map (fields w) rows)
+rows_lawful : (w : ℕ) → w ≤ 4 → (rows : List Row) → AllByRecursion (RowOfWidth w) rows → AllByRecursion (LawfulRow (length (names w))) (map (fields w) rows)
 rows_lawful w l [] h = tt
 rows_lawful w l (row ∷ rows) h =
     (subst (λ m. LawfulRow m (fields w row)) (sym (names_count w)) (row_lawful w l row h.0), rows_lawful w l rows h.1)
 
-rows_back : (w : ℕ) → w ≤ 4 → (rows : List Row) → All (RowOfWidth w) rows → map row_of (map (fields w) rows) ≡ rows
+rows_back : (w : ℕ) → w ≤ 4 → (rows : List Row) → AllByRecursion (RowOfWidth w) rows → map row_of (map (fields w) rows) ≡ rows
 rows_back w l [] h = refl
 rows_back w l (row ∷ rows) h = ap₂ ◌∷◌ (row_back w l row h.0) (rows_back w l rows h.1)
 
-rows_short : (w : ℕ) → w ≤ 4 → (rows : List Row) → All (RowOfWidth w) rows → length (flat_map (row_text w) rows) ≤ 56 * length rows
+rows_short : (w : ℕ) → w ≤ 4 → (rows : List Row) → AllByRecursion (RowOfWidth w) rows → length (flat_map (row_text w) rows) ≤ 56 * length rows
 rows_short w l [] h = omega arith
 rows_short w l (row ∷ rows) h =
     omega (arith, length-append (row_text w row) (flat_map (row_text w) rows), row_length w row l h.0.small h.0.sure_small, rows_short w l rows h.1)

@@ -1,6 +1,6 @@
 -- What is wrong with a text is one thing, and nothing is wrong with a table file.
 use Rattle.std.proofs.Common.{◌≡◌, ℕ, ◌+◌, ◌<◌, ◌≤◌, ◌⊎◌, List, [], ◌∷◌, length, get_or, drop, Some, None, Ok, Err, Option, Result, sym, refl, ap, ◌∙◌, subst, inl, inr, arith}
-use Rattle.std.specs.List.{AllByRecursion as All}
+use Rattle.std.specs.List.{AllByRecursion}
 use Rattle.std.proofs.ByRecursion.{All-get_or, All-weaker}
 use Rattle.std.proofs.lemmas.Bool.{cases_order}
 use Rattle.table_files.specs.declared.Fault.{Fault}
@@ -63,16 +63,16 @@ header_lawful : {text : List ℕ} {p : Place} {h : List (List ℕ)} {r : Rows} �
 header_lawful {text} (g, s, b, bad, e) a l = bad (subst LawfulHeader (same_table text a b).0 l)
 
 count_same : {text : List ℕ} {p : Place} {h : List (List ℕ)} {r : Rows} → Wrong text (FieldCount p) → Reads text h r →
-    All (λ values. length values ≡ length h) r → ⊥
+    AllByRecursion (λ values. length values ≡ length h) r → ⊥
 count_same {text} {h = h} {r = r} (g, s, b, l, k, odd, e) a all =
     let t = same_table text a b in
     odd.odd (subst (λ (n : ℕ). length (get_or s k []) ≡ n) (ap length t.0)
-    (All-get_or (λ values. length values ≡ length h) s k [] odd.there (subst (All (λ values. length values ≡ length h)) t.1 all)))
+    (All-get_or (λ values. length values ≡ length h) s k [] odd.there (subst (AllByRecursion (λ values. length values ≡ length h)) t.1 all)))
 
-rows_sound : {text : List ℕ} {p : Place} {h : List (List ℕ)} {r : Rows} → Wrong text (Field p) → Reads text h r → All (LawfulRow (length h)) r → ⊥
+rows_sound : {text : List ℕ} {p : Place} {h : List (List ℕ)} {r : Rows} → Wrong text (Field p) → Reads text h r → AllByRecursion (LawfulRow (length h)) r → ⊥
 rows_sound {text} {h = h} {r = r} (g, s, b, l, n, k, f, br, e) a all =
     let t = same_table text a b in
-    br.broken ((All-get_or (LawfulRow (length h)) s k [] br.there (subst (All (LawfulRow (length h))) t.1 all)).1 f br.inside)
+    br.broken ((All-get_or (LawfulRow (length h)) s k [] br.there (subst (AllByRecursion (LawfulRow (length h))) t.1 all)).1 f br.inside)
 
 one_fault : (text : List ℕ) (f g : Fault) → Wrong text f → Wrong text g → f ≡ g
 one_fault text TooLong TooLong a b = refl
@@ -111,7 +111,7 @@ one_fault text (Field p) (Field q) (h, r, a, _, _, k, f, x, e) (g, s, b, _, _, l
     let j = one_broken s k f l i (subst (λ u. FirstBroken u k f) t.1 x) y in
     ap Field (e ∙ (ap (λ n. place (n + 2) (f + 1)) j.0 ∙ (ap (λ n. place (l + 2) (n + 1)) j.1 ∙ sym d)))
 
-all_counts : (n : ℕ) (rows : Rows) → All (LawfulRow n) rows → All (λ values. length values ≡ n) rows
+all_counts : (n : ℕ) (rows : Rows) → AllByRecursion (LawfulRow n) rows → AllByRecursion (λ values. length values ≡ n) rows
 all_counts n [] h = tt
 all_counts n (values ∷ rows) h = (h.0.0, all_counts n rows h.1)
 
@@ -142,7 +142,7 @@ header_of : (text : List ℕ) → Lawful text → (h : List (List ℕ)) × (r : 
 header_of text ([], f) = absurd (firsts f)
 header_of text (h ∷ r, f) = (h, r, f)
 
-lawful_rows : (n : ℕ) (rows : Rows) → All (λ values. length values ≡ n) rows → All Sound rows → All (LawfulRow n) rows
+lawful_rows : (n : ℕ) (rows : Rows) → AllByRecursion (λ values. length values ≡ n) rows → AllByRecursion Sound rows → AllByRecursion (LawfulRow n) rows
 lawful_rows n [] a b = tt
 lawful_rows n (values ∷ rows) a b = ((a.0, b.0), lawful_rows n rows a.1 b.1)
 
@@ -179,8 +179,8 @@ module _ (text : List ℕ) (short : length text ≤ 65536) (lawful : Lawful text
         answered text (Err (FieldCount p)) (names, rows, reads, lawful_header.0, o.0, o.1, o.2)
 
     module _ (m : ℕ) (d : counted ≡ Ok m) (checked : Result (Unit {0}) Place)
-        (check : (rs : Rows) → Says (drop header.next text) rs → All (λ values. length values ≤ 5) rs → RowsChecked rs checked) where
-      abbrev same_count : (m ≡ length rows) × All (λ values. length values ≡ length names) rows
+        (check : (rs : Rows) → Says (drop header.next text) rs → AllByRecursion (λ values. length values ≤ 5) rs → RowsChecked rs checked) where
+      abbrev same_count : (m ≡ length rows) × AllByRecursion (λ values. length values ≡ length names) rows
       same_count = subst (RowCount (length names) rows) d row_count
 
       abbrev sound : RowsChecked rows checked

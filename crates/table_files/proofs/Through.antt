@@ -1,6 +1,6 @@
 -- A walk over the rows of a text, each of which has been found to keep some rule.
 use Rattle.std.proofs.Common.{◌≡◌, ℕ, ◌+◌, ◌<◌, ◌≤◌, List, [], ◌∷◌, length, get_or, drop, Some, Ok, Err, Result, sym, refl, ap, ◌∙◌, subst, arith, length-drop, below_more}
-use Rattle.std.specs.List.{AllByRecursion as All}
+use Rattle.std.specs.List.{AllByRecursion}
 use Rattle.std.proofs.ByRecursion.{All-get_or, All-from_get_or}
 use Rattle.std.proofs.lemmas.List.{drop_more, drop_all}
 use Rattle.table_files.specs.declared.RecordPlaces.{RecordPlaces}
@@ -51,7 +51,7 @@ module _ (P : List (List ℕ) → Type 0) (text : List ℕ) (at count : ℕ) (ro
       let e : drop count rows ≡ [] = subst (λ t. Says t (drop count rows)) (drop_all at text l) h.says in
       omega (arith, length-drop count rows, ap length e, h.inside)
 
-  pub all_through : length text ≤ at → All P rows
+  pub all_through : length text ≤ at → AllByRecursion P rows
   all_through l = All-from_get_or P rows [] (λ k lk. h.kept k (omega (arith, through_all l)))
 
 -- each row has n fields
@@ -73,7 +73,7 @@ module _ (n : ℕ) (text : List ℕ) (at count : ℕ) (rows : List (List (List �
 
 -- each field keeps its rule
 
-module _ (text : List ℕ) (at count : ℕ) (rows : List (List (List ℕ))) (few : All (λ values. length values ≤ 5) rows) (h : Through Sound text at count rows)
+module _ (text : List ℕ) (at count : ℕ) (rows : List (List (List ℕ))) (few : AllByRecursion (λ values. length values ≤ 5) rows) (h : Through Sound text at count rows)
     (lt : at < length text) (r : RecordPlaces)
     (found : (values : List (List ℕ)) (records : List (List (List ℕ))) → File (drop at text) (values ∷ records) → Found text values records r)
     (o : Result Row ℕ) (row : (values : List (List ℕ)) (records : List (List (List ℕ))) → Found text values records r → length values ≤ 5 → RowRead values o) where
@@ -113,11 +113,11 @@ module _ (n : ℕ) (walk : Rows) (lt : walk.at < length walk.text.now) (r : Reco
     (row : (values : List (List ℕ)) (records : List (List (List ℕ))) → Found walk.text.now values records r → length values ≤ 5 → RowRead values o) where
   first_row : (rows : List (List (List ℕ))) → Ahead n walk rows →
       (values : List (List ℕ)) × (others : List (List (List ℕ))) × (rows ≡ values ∷ others) × Found walk.text.now values others r × RowRead values o
-      × LawfulRow n values × All (LawfulRow n) others
+      × LawfulRow n values × AllByRecursion (LawfulRow n) others
   first_row rows h =
       let k = says_file (drop walk.at walk.text.now) rows (omega (arith, length-drop walk.at walk.text.now)) h.0 in
       let f = found k.0 k.1 k.3 in
-      let s = subst (All (LawfulRow n)) k.2 h.3 in
+      let s = subst (AllByRecursion (LawfulRow n)) k.2 h.3 in
       (k.0, k.1, k.2, f, row k.0 k.1 f (omega (arith, s.0.0, h.2)), s.0, s.1)
 
   pub walked_row : (x : Row) → o ≡ Ok x → (rows : List (List (List ℕ))) → Ahead n walk rows → Walked n rows (Some x) (record { text = walk.text; at = r.next })

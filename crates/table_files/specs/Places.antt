@@ -1,7 +1,7 @@
 -- Where the fields of a record stand in a text: for the contracts of the walk's own functions.
 use Rattle.std.specs.Prelude.{◌≡◌, ℕ, ◌+◌, ◌-◌, ◌<◌, ◌≤◌, Bool, false, cond, ◌⊎◌, List, [], ◌∷◌, ◌++◌, length, take, drop, Some, None, Ok, Err, Option, Result, nat_lt, slice_index, slice_index_or, slice_set}
 use Rattle.std.specs.Str.Parse.{digits_value as value}
-use Rattle.std.specs.List.{AllByRecursion as All}
+use Rattle.std.specs.List.{AllByRecursion}
 use Rattle.table_files.specs.declared.FieldPlace.{FieldPlace}
 use Rattle.table_files.specs.declared.Place.{Place}
 use Rattle.table_files.specs.declared.RecordPlaces.{RecordPlaces}
@@ -76,10 +76,10 @@ Width names None = LawfulHeader names → ⊥
 
 -- the number of rows, each of n fields; or the place of the first of another number
 abbrev pub RowCount : ℕ → List Values → Result ℕ Place → Type 0
-RowCount n rows (Ok count) = (count ≡ length rows) × All (λ values. length values ≡ n) rows
+RowCount n rows (Ok count) = (count ≡ length rows) × AllByRecursion (λ values. length values ≡ n) rows
 RowCount n rows (Err p) = (r : ℕ) × FirstOdd n rows r × (p ≡ place (r + 2) (length (slice_index_or rows r [])))
 
 -- rows whose fields keep their rules; or the place of the first field that breaks its rule
 abbrev pub RowsChecked : List Values → Result (Unit {0}) Place → Type 0
-RowsChecked rows (Ok u) = All Sound rows
+RowsChecked rows (Ok u) = AllByRecursion Sound rows
 RowsChecked rows (Err p) = (r : ℕ) × (f : ℕ) × FirstBroken rows r f × (p ≡ place (r + 2) (f + 1))

@@ -1,7 +1,7 @@
 -- Table files: the rules for their records, and what may be wrong with a text, in the order in which it is looked for.
 use Rattle.std.specs.Prelude.{◌≡◌, ℕ, ◌+◌, ◌-◌, ◌<◌, ◌≤◌, cond, ◌⊎◌, List, [], ◌∷◌, length, drop, Some, None, Ok, Err, Option, Result, nat_lt, slice_index_or}
 use Rattle.std.specs.Str.Parse.{AllDigits, digits_value}
-use Rattle.std.specs.List.{AllByRecursion as All}
+use Rattle.std.specs.List.{AllByRecursion}
 use Rattle.table_files.specs.declared.Fault.{Fault}
 use Rattle.table_files.specs.declared.Fault.TheVariants.{TooLong, Grammar, Header, FieldCount, Field}
 use Rattle.table_files.specs.declared.Place.{Place}
@@ -36,7 +36,7 @@ LawfulRow n values = (length values ≡ n) × Sound values
 
 -- the records of a table: a header, and rows of as many fields
 abbrev pub Table : Values → List Values → Type 0
-Table header rows = LawfulHeader header × All (LawfulRow (length header)) rows
+Table header rows = LawfulHeader header × AllByRecursion (LawfulRow (length header)) rows
 
 -- row r, from 0, is the first that has not n fields
 pub record FirstOdd (n : ℕ) (rows : List Values) (r : ℕ) : Type 0 where
@@ -73,7 +73,7 @@ Wrong text (FieldCount p) =
     × LawfulHeader header × (r : ℕ) × FirstOdd (length header) rows r × (p ≡ place (r + 2) (length (slice_index_or rows r [])))
 Wrong text (Field p) =
     (header : Values) × (rows : List Values) × Reads text header rows
-    × LawfulHeader header × All (λ values. length values ≡ length header) rows
+    × LawfulHeader header × AllByRecursion (λ values. length values ≡ length header) rows
     × (r : ℕ) × (f : ℕ) × FirstBroken rows r f × (p ≡ place (r + 2) (f + 1))
 
 -- the number in cell k of a row: 0 where it is blank, and past the last
@@ -95,7 +95,7 @@ Says (b ∷ rest) records = File (b ∷ rest) records
 
 -- the rows that a walk has before it, all of n fields
 abbrev pub Ahead : ℕ → Rows → List Values → Type 0
-Ahead n walk rows = Says (drop walk.at walk.text.now) rows × (2 ≤ n) × (n ≤ 5) × All (LawfulRow n) rows
+Ahead n walk rows = Says (drop walk.at walk.text.now) rows × (2 ≤ n) × (n ≤ 5) × AllByRecursion (LawfulRow n) rows
 
 -- how many bytes a walk has before it
 abbrev pub bytes_left : Rows → ℕ

@@ -1,6 +1,6 @@
 -- What is written of a table, and that it reads back.
 use Rattle.std.specs.Prelude.{◌≡◌, ℕ, zero, suc, ◌+◌, ◌*◌, ◌^◌, ◌<◌, ◌≤◌, List, [], ◌∷◌, ◌++◌, map, length, take, decimal, slice_index}
-use Rattle.std.specs.List.{flat_map, AllByRecursion as All}
+use Rattle.std.specs.List.{flat_map, AllByRecursion}
 use Rattle.table_files.specs.declared.Row.{Row}
 use Rattle.table_files.specs.Grammar.{Bytes, Values, COMMA, CR, LF}
 use Rattle.table_files.specs.Tables.{Reads, Table, row_of, sure}
@@ -62,4 +62,4 @@ pub record ReadsBack (w : ℕ) (rows : List Row) : Type 0 where
 
 -- this of every table
 abbrev pub WrittenReadsBack : Type 0
-WrittenReadsBack = (w : ℕ) (rows : List Row) → 1 ≤ w → w ≤ 4 → All (RowOfWidth w) rows → ReadsBack w rows
+WrittenReadsBack = (w : ℕ) (rows : List Row) → 1 ≤ w → w ≤ 4 → AllByRecursion (RowOfWidth w) rows → ReadsBack w rows

@@ -3,7 +3,7 @@
 
 ghost use Rattle.std.specs.Prelude.{◌≡◌, ℕ, ◌+◌, ◌^◌, ◌<◌, ◌≤◌, true, false, ◌&&◌, List, [], ◌∷◌, length, drop, is_some, if◌then◌else◌, Some, None, decimal, Decides, MatchOption, MatchResult, slice_index, slice_index_or};
 ghost use Rattle.std.specs.Str.Parse.{digits_value as value};
-ghost use Rattle.std.specs.List.{AllByRecursion as All};
+ghost use Rattle.std.specs.List.{AllByRecursion};
 ghost use Rattle.table_files.specs.Grammar.{Breaks, Bytes, COMMA, DQUOTE, Field, File, Lawful, Values};
 ghost use Rattle.table_files.specs.Places.{Content, EndsAt, Found, Holds, Number, Numbers, RowCount, RowRead, RowsChecked, Width, Within, nowhere, pushed};
 ghost use Rattle.table_files.specs.Steps.{class_of, next, done, parts};
@@ -408,7 +408,7 @@ fn count_rows(text: &[u8], start: usize, fields: usize) -> Result<usize, Place>
 // Whether each field of the rows from a byte on keeps its rule; or the place of the first that does not.
 fn check_rows(text: &[u8], start: usize) -> Result<(), Place>
     requires { start ≤ length text.now }
-    ensures { (rows : List Values) → Says (drop start text.now) rows → All (λ values. length values ≤ 5) rows → RowsChecked rows result }
+    ensures { (rows : List Values) → Says (drop start text.now) rows → AllByRecursion (λ values. length values ≤ 5) rows → RowsChecked rows result }
 {
     let mut at = start;
     let mut count = 0;
