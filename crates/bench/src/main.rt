@@ -1,5 +1,6 @@
 //! How long the work of this repository takes. What was worked out goes to standard output, the times to standard error.
 #![tactic(auto)]
+
 mod files;
 mod graphs;
 

@@ -11,8 +11,8 @@ loop-b-init g c = record { fits = λ x m. m; hope = λ x h. h.1.1.1.has_b }
 pub loop-b-smaller : goal.loop-b-smaller
 loop-b-smaller g c = tally_removed _ _ c.in-Some.b (search rules) c.in-Some.ensures.0 c.remove.ensures
 
-pub chain-about-requires : goal.chain-about-requires
-chain-about-requires g c = record {
+pub chain_about-requires : goal.chain_about-requires
+chain_about-requires g c = record {
   has_b = c.loop-b.invariant.fits c.in-Some.b c.in-Some.ensures.0;
   among = λ x m. c.loop-b.invariant.fits x (and_parts _ _ (sym (c.remove.ensures x) ∙ m)).0;
 }

@@ -3,8 +3,8 @@ use Rattle.graph.proofs.Deciding.{members_only, members_answer}
 use Rattle.graph.proofs.Theorem.{splits_iff_no_chain}
 use Rattle.graph.proofs.splits.split.Goals as goal
 
-pub split-members-requires : goal.split-members-requires
-split-members-requires g c =
+pub split_members-requires : goal.split_members-requires
+split_members-requires g c =
     members_only c.args.selected (member c.below.result) (member c.intersection.result) c.size.result c.size.ensures
     c.below.ensures c.intersection.ensures
 

@@ -7,22 +7,22 @@ use Rattle.graph.proofs.Apart.{one_part, falls_apart, falls_coapart}
 use Rattle.graph.proofs.Deciding.{one_member, two_members, finds}
 use Rattle.graph.proofs.splits.split_members.Goals as goal
 
-pub returns-then-is-empty : goal.returns-then-is-empty
-returns-then-is-empty g c =
-    one_member c.in-Some.first (member c.remove.new.self) c.in-Some.ensures.0 c.remove.ensures (c.is-empty.ensures.0 c.if-is-empty.true)
+pub returns-then-is_empty : goal.returns-then-is_empty
+returns-then-is_empty g c =
+    one_member c.in-Some.first (member c.remove.new.self) c.in-Some.ensures.0 c.remove.ensures (c.is_empty.ensures.0 c.if-is_empty.true)
 
-pub returns-then-in-graph-ge2 : goal.returns-then-in-graph-ge2
-returns-then-in-graph-ge2 g c = falls_apart (g.G.Graph.laws c.args.graph.now) c.parts-in-graph.ensures c.requires (search rules)
+pub returns-then-in_graph-ge2 : goal.returns-then-in_graph-ge2
+returns-then-in_graph-ge2 g c = falls_apart (g.G.Graph.laws c.args.graph.now) c.parts-in_graph.ensures c.requires (search rules)
 
-pub returns-then-in-complement-ge2 : goal.returns-then-in-complement-ge2
-returns-then-in-complement-ge2 g c = falls_coapart (g.G.Graph.laws c.args.graph.now) c.parts-in-complement.ensures c.requires (search rules)
+pub returns-then-in_complement-ge2 : goal.returns-then-in_complement-ge2
+returns-then-in_complement-ge2 g c = falls_coapart (g.G.Graph.laws c.args.graph.now) c.parts-in_complement.ensures c.requires (search rules)
 
 pub unwrap-requires : goal.unwrap-requires
 unwrap-requires g c =
     let G = g.G.Graph.laws c.args.graph.now in
     finds G c.requires
     (two_members c.in-Some.first (member c.remove.new.self) c.in-Some.ensures.0 c.remove.ensures (λ none. both_ways _ c.if-is_empty.false (c.is_empty.ensures.1 none)))
-    (one_part G c.parts-in_graph.ensures (search rules)) (one_part (complement_graph G) c.parts-in-complement.ensures (search rules))
+    (one_part G c.parts-in_graph.ensures (search rules)) (one_part (complement_graph G) c.parts-in_complement.ensures (search rules))
     c.chain.result c.chain.ensures
 
 pub returns : goal.returns

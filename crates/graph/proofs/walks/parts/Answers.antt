@@ -9,8 +9,8 @@ loop-x-init g c = (refl, listing_start _ _ _)
 pub bounds-sets-count : goal.bounds-sets-count
 bounds-sets-count g c = room_left c.loop-x.invariant.1 c.in-Some.x (search rules) c.in-Some.ensures.0
 
-pub overflow-add-count : goal.overflow-add-count
-overflow-add-count g c = omega (arith, room_left c.loop-x.invariant.1 c.in-Some.x (search rules) c.in-Some.ensures.0)
+pub overflow_add-count : goal.overflow_add-count
+overflow_add-count g c = omega (arith, room_left c.loop-x.invariant.1 c.in-Some.x (search rules) c.in-Some.ensures.0)
 
 pub loop-x-smaller : goal.loop-x-smaller
 loop-x-smaller g c =

@@ -7,6 +7,6 @@ pub returns : goal.returns
 unfolding member
 returns c k =
     let end = c.args.end in
-    let words = c.low_bits.result ∷ c.low_bits-2.result ∷ c.low_bits-3.result ∷ c.low-bits-4.result ∷ [] in
+    let words = c.low_bits.result ∷ c.low_bits-2.result ∷ c.low_bits-3.result ∷ c.low_bits-4.result ∷ [] in
     below_end words end k (four (λ q. (j : ℕ) → j < 64 → has_bit (get_or words q 0) j ≡ ltb j (end - 64 * q))
     (λ j l. search rules) (λ j l. search rules) (λ j l. search rules) (λ j l. search rules))
