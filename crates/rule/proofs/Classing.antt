@@ -97,6 +97,11 @@ pub run_more : (c k : Class) (xs : List ℕ) (r : ℕ) → 0 < length xs → k �
 run_more c k xs r h e f g =
     ap (λ n. 1 + n) g ∙ (sym (cond-true _ _ 0 (same_is (class (get_or xs 0 0)) c (sym e ∙ f))) ∙ sym (ap (run_of c) (first_rest xs 0 h)))
 
+-- and none where another byte comes first
+pub run_none : (c k : Class) (xs : List ℕ) → 0 < length xs → k ≡ class (get_or xs 0 0) → (k ≡ c → ⊥) → 0 ≡ run_of c xs
+run_none c k [] h e f = omega arith
+run_none c k (b ∷ s) h e f = rw (other_is (class b) c (λ g. f (e ∙ g))) refl
+
 -- behind them comes none of it
 run_stop : (c : Class) (xs : List ℕ) → run_of c xs < length xs → class (get_or xs (run_of c xs) 0) ≡ c → ⊥
 run_stop c [] = λ l e. omega arith
