@@ -137,3 +137,8 @@ pub run_some : (c : Class) (text : List ℕ) (at : ℕ) → at < length text →
 run_some c text at l e =
     let f = ap (run_of c) (drop_more text at 0 l) ∙ cond-true _ (1 + run_of c (drop (at + 1) text)) 0 (same_is (class (get_or text at 0)) c e) in
     omega arith
+
+-- there is none where a byte of another class comes first
+pub run_none : (c k : Class) (xs : List ℕ) → 0 < length xs → k ≡ class (get_or xs 0 0) → (k ≡ c → ⊥) → 0 ≡ run_of c xs
+run_none c k [] h e f = omega arith
+run_none c k (b ∷ s) h e f = rw (other_is (class b) c (λ g. f (e ∙ g))) refl

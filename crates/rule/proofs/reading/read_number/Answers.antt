@@ -10,11 +10,11 @@ use Rattle.rule.proofs.reading.read_number.Goals as goal
 small : (count n : ℕ) → true ≡ (leb count 10 && leb n 4294967295) → n ≤ 4294967295
 small count n e = leb-true n 4294967295 (and_parts (leb count 10) (leb n 4294967295) (sym e)).1
 
-pub overflow-sub-digit : goal.overflow-sub-digit
-overflow-sub-digit c = let h = digit_at c.args.digits.now c.loop-i.i c.requires.0 c.loop-i-test.true in omega arith
+pub overflow_sub-digit : goal.overflow_sub-digit
+overflow_sub-digit c = let h = digit_at c.args.digits.now c.loop-i.i c.requires.0 c.loop-i-test.true in omega arith
 
-pub returns-then-not-is-lawful : goal.returns-then-not-is-lawful
-returns-then-not-is-lawful c =
+pub returns-then-not-is_lawful : goal.returns-then-not-is_lawful
+returns-then-not-is_lawful c =
     let ds = c.args.digits.now in
     let i = c.loop-i.i in
     let l = c.loop-i-test.true in
@@ -22,10 +22,10 @@ returns-then-not-is-lawful c =
     let m = digits_value_more 10 ds i l in
     let e : digits_value 10 (take (i + 1) ds) ≡ c.from.result * 10 + c.from-in-loop-i.result =
     omega (arith, c.loop-i.invariant.0, c.from.ensures, c.from-in-loop-i.ensures) in
-    sofar_stop ds c.args.at i c.requires.0 l c.loop-i.invariant.2 (ap (λ n. leb (i + 1) 10 && leb n 4294967295) e ∙ sym c.if-not-is-lawful.ensures)
+    sofar_stop ds c.args.at i c.requires.0 l c.loop-i.invariant.2 (ap (λ n. leb (i + 1) 10 && leb n 4294967295) e ∙ sym c.if-not-is_lawful.ensures)
 
-pub overflow-cast-number : goal.overflow-cast-number
-overflow-cast-number c = let l = small (c.loop-i.i + 1) (c.from.result * 10 + c.from-in-loop-i.result) c.if-not-is-lawful.ensures in omega arith
+pub overflow_cast-number : goal.overflow_cast-number
+overflow_cast-number c = let l = small (c.loop-i.i + 1) (c.from.result * 10 + c.from-in-loop-i.result) c.if-not-is_lawful.ensures in omega arith
 
 pub loop-i-preserved : goal.loop-i-preserved
 loop-i-preserved c =

@@ -3,28 +3,28 @@ use Rattle.std.proofs.lemmas.Result.{err_from_is_err_and}
 use Rattle.rule.proofs.Terms.{variable_read, constant_digits, constant_inside, constant_ok, constant_err, no_term}
 use Rattle.rule.proofs.reading.read_term.Goals as goal
 
-pub read-number-requires : goal.read-number-requires
-read-number-requires c =
+pub read_number-requires : goal.read_number-requires
+read_number-requires c =
     let h = c.in-Constant.ensures in
     let text = c.args.text.now in
     let i = constant_inside text c.args.from c.in-Constant.at c.in-Constant.digits.now h.0 h.1 in
-    (constant_digits text c.args.from c.in-Constant.at c.in-Constant.digits.now h.0 h.1, omega (arith, c.well-formed))
+    (constant_digits text c.args.from c.in-Constant.at c.in-Constant.digits.now h.0 h.1, omega (arith, c.well_formed))
 
-pub returns-in-err-number : goal.returns-in-err-number
-returns-in-err-number c =
+pub returns-in_err-number-in-Constant : goal.returns-in_err-number-in-Constant
+returns-in_err-number-in-Constant c =
     let h = c.in-Constant.ensures in
-    let p = err_from_is_err_and c.from-residual.result c.from-residual.ensures.1 in
-    rw (p.1, p.2) (constant_err c.args.text.now c.args.from c.in-Constant.at c.in-Constant.digits.now h.0 h.1 _ c.in-err-number.ensures)
+    let p = err_from_is_err_and c.from_residual.result c.from_residual.ensures.1 in
+    rw (p.1, p.2) (constant_err c.args.text.now c.args.from c.in-Constant.at c.in-Constant.digits.now h.0 h.1 _ c.in_err-number-in-Constant.ensures)
 
 pub returns-in-Variable : goal.returns-in-Variable
 returns-in-Variable c =
     let h = c.in-Variable.ensures in variable_read c.args.text.now c.args.from c.in-Variable.at c.in-Variable.name.now h.0 h.1
 
-pub returns-in-ok-number : goal.returns-in-ok-number
-returns-in-ok-number c =
+pub returns-in_ok-number-in-Constant : goal.returns-in_ok-number-in-Constant
+returns-in_ok-number-in-Constant c =
     let h = c.in-Constant.ensures in
-    constant_ok c.args.text.now c.args.from c.in-Constant.at c.in-Constant.digits.now h.0 h.1 c.in-ok-number.number c.in-ok-number.ensures
+    constant_ok c.args.text.now c.args.from c.in-Constant.at c.in-Constant.digits.now h.0 h.1 c.in_ok-number-in-Constant.number c.in_ok-number-in-Constant.ensures
 
-pub returns-in-default : goal.returns-in-default
-returns-in-default c =
-    rw c.place.ensures (no_term c.args.text.now c.args.from c.next-token.result c.next-token.ensures c.in-default.not-Variable c.in-default.not-Constant)
+pub returns-in_default : goal.returns-in_default
+returns-in_default c =
+    rw c.place.ensures (no_term c.args.text.now c.args.from c.next_token.result c.next_token.ensures c.in_default.not-Variable c.in_default.not-Constant)

@@ -4,12 +4,16 @@ use Rattle.rule.specs.Kept.{all, fits}
 use Rattle.rule.proofs.Gathering.{all_push}
 use Rattle.rule.proofs.rules.Rule.push.Goals as goal
 
-pub invariant-of-self : goal.invariant-of-self
-invariant-of-self c =
+pub invariant_of-self : goal.invariant_of-self
+invariant_of-self c =
     let r = c.args.self.now in
     let a = c.args.atom in
     let e = take_more_set r.atoms r.count a (omega (arith, r.sized, c.requires.0)) in
-    (length-set r.atoms r.count a ∙ r.sized, (omega (arith, c.requires.0), (ap (all fits) e ∙ all_push fits (take r.count r.atoms) a r.fit c.requires.1, tt)))
+    record {
+      sized = length-set r.atoms r.count a ∙ r.sized;
+      few = omega (arith, c.requires.0);
+      fit = ap (all fits) e ∙ all_push fits (take r.count r.atoms) a r.fit c.requires.1;
+    }
 
 pub returns : goal.returns
 returns c =
