@@ -3,16 +3,16 @@ use Rattle.std.proofs.lemmas.Bool.{eqb-true, eqb-false}
 use Rattle.tree.specs.Passes.{means}
 use Rattle.tree.proofs.Filling.{Filled, filled_row, filled_other, pair_leaf, leaf_read, all_sums, first_sums, no_sums}
 use Rattle.tree.proofs.worlds.evaluate.Goals as goal
-use Rattle.tree.proofs.worlds.evaluate.Goals.{in-Row, in-default}
+use Rattle.tree.proofs.worlds.evaluate.Goals.{in-Row, in_default}
 
-pub offset-bounds-ins-row : goal.offset-bounds-ins-row
-offset-bounds-ins-row g c = let h = c.requires.placed.0 c.loop-i.i c.in-Row.row c.loop-i-test.true c.in-Row.is in omega arith
+pub offset_bounds-ins-row : goal.offset_bounds-ins-row
+offset_bounds-ins-row g c = let h = c.requires.placed.0 c.loop-i.i c.in-Row.row c.loop-i-test.true c.in-Row.is in omega arith
 
 pub bounds-ins-row : goal.bounds-ins-row
 bounds-ins-row g c = c.requires.placed.0 c.loop-i.i c.in-Row.row c.loop-i-test.true c.in-Row.is
 
-pub offset-bounds-outs-row : goal.offset-bounds-outs-row
-offset-bounds-outs-row g c = let h = c.requires.placed.1 c.loop-i.i c.in-Row.row c.loop-i-test.true c.in-Row.is in omega arith
+pub offset_bounds-outs-row : goal.offset_bounds-outs-row
+offset_bounds-outs-row g c = let h = c.requires.placed.1 c.loop-i.i c.in-Row.row c.loop-i-test.true c.in-Row.is in omega arith
 
 pub bounds-outs-row : goal.bounds-outs-row
 bounds-outs-row g c = c.requires.placed.1 c.loop-i.i c.in-Row.row c.loop-i-test.true c.in-Row.is
@@ -38,7 +38,7 @@ loop-i-preserved g c =
                 c.loop-i.invariant.0,
             drop-set-lt (length ns) ps i pair c.loop-i-test.true ∙ c.loop-i.invariant.1,
           )
-      | in-default w ↦ subst P (sym w.pairs-is) (filled_other (means s.mean) leaf ns i ps w.in-default.not-Row c.loop-i.invariant.0, c.loop-i.invariant.1)
+      | in_default w ↦ subst P (sym w.pairs-is) (filled_other (means s.mean) leaf ns i ps w.in_default.not-Row c.loop-i.invariant.0, c.loop-i.invariant.1)
     ]
 
 pub returns-then-is_empty : goal.returns-then-is_empty
