@@ -1,5 +1,6 @@
 //! Read-once formulas laid out as nodes: building them, their sums over worlds in every scale, their chance and their text.
 #![tactic(auto)]
+
 ghost use Rattle.std.specs.Prelude.{◌≡◌};
 ghost use Rattle.tree.specs.Nodes.{size_of, inner_of};
 

@@ -1,5 +1,6 @@
 //! The worked tree: its form, its counts, its prices and its chance.
 #![tactic(auto)]
+
 ghost use Rattle.std.specs.Prelude.{◌≡◌};
 ghost use Rattle.tree.specs.Layout.{nodes_of};
 ghost use Rattle.worked.specs.Examples.{worked};

@@ -7,10 +7,10 @@ use Rattle.worked.proofs.print_form.Goals as goal
 pub write_form-length-requires : goal.write_form-length-requires
 write_form-length-requires c = worked_room c.args.nodes.now c.requires
 
-pub slice-bounds-text-end : goal.slice-bounds-text-end
-slice-bounds-text-end c = let h = (c.write_form-length.ensures.ends (form worked) c.requires).1 in omega arith
+pub slice_bounds-text-end : goal.slice_bounds-text-end
+slice_bounds-text-end c = let h = (c.write_form-length.ensures.ends (form worked) c.requires).1 in omega arith
 
-pub slice-bounds-write_all-end : goal.slice-bounds-write_all-end
-slice-bounds-write_all-end c =
+pub slice_bounds-write_all-end : goal.slice_bounds-write_all-end
+slice_bounds-write_all-end c =
     let h = (c.write_form-length.ensures.ends (form worked) c.requires).1 in
     sym (length-take-le c.write_form-length.result c.write_form-length.new.out (omega (arith, c.write_form-length.auto.out)))

@@ -5,13 +5,13 @@ use Rattle.tree.proofs.Ends.{ends}
 use Rattle.tree.proofs.Filling.{Filled, filled_row, filled_other, sure_leaf, first_bracket, no_bracket}
 use Rattle.tree.proofs.Nearness.{nears}
 use Rattle.tree.proofs.bracket.chance.Goals as goal
-use Rattle.tree.proofs.bracket.chance.Goals.{in-Row, in-default}
+use Rattle.tree.proofs.bracket.chance.Goals.{in-Row, in_default}
 
 pub loop-i-init : goal.loop-i-init
 loop-i-init c = (λ k d r h e. absurd (let z : ⊥ = omega arith in z), refl)
 
-pub offset-bounds-sure-row : goal.offset-bounds-sure-row
-offset-bounds-sure-row c = let h = c.requires.placed c.loop-i.i c.in-Row.row c.loop-i-test.true c.in-Row.is in search rules
+pub offset_bounds-sure-row : goal.offset_bounds-sure-row
+offset_bounds-sure-row c = let h = c.requires.placed c.loop-i.i c.in-Row.row c.loop-i-test.true c.in-Row.is in search rules
 
 pub bounds-sure-row : goal.bounds-sure-row
 bounds-sure-row c = c.requires.placed c.loop-i.i c.in-Row.row c.loop-i-test.true c.in-Row.is
@@ -30,7 +30,7 @@ loop-i-preserved c =
             filled_row ends (sure_leaf ends sure ns) ns i bs w.in-Row.row b (omega arith) w.in-Row.is (ap₂ (λ x y. (x, y)) w.known.ensures.low w.known.ensures.high) c.loop-i.invariant.0,
             length-set bs i b ∙ c.loop-i.invariant.1,
           )
-      | in-default w ↦ subst P (sym w.brackets-is) (filled_other ends (sure_leaf ends sure ns) ns i bs w.in-default.not-Row c.loop-i.invariant.0, c.loop-i.invariant.1)
+      | in_default w ↦ subst P (sym w.brackets-is) (filled_other ends (sure_leaf ends sure ns) ns i bs w.in_default.not-Row c.loop-i.invariant.0, c.loop-i.invariant.1)
     ]
 
 pub returns-then-is_empty : goal.returns-then-is_empty

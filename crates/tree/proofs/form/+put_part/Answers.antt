@@ -22,9 +22,9 @@ returns-in-Row t c =
       wrote = λ F l. c.put_row_text.ensures.wrote ∙ ap (over c.args.out.now c.args.start) (sym (row_written c.args.nodes.now F l c.args.at c.requires.there c.in-Row.row c.in-Row.is c.args.inside));
     }
 
-pub returns-in-default-inner : goal.returns-in-default-inner
-returns-in-default-inner t c =
-    absurd (elim (inner_none _ (sym c.in-default-inner.is ∙ c.inner.ensures)) [ inl r ↦ c.in-default.not-Row r.0 r.1 | inr v ↦ none_vacant c.args.nodes.now c.requires.laid c.args.at c.requires.there v ])
+pub returns-in_default-inner : goal.returns-in_default-inner
+returns-in_default-inner t c =
+    absurd (elim (inner_none _ (sym c.in_default-inner.is ∙ c.inner.ensures)) [ inl r ↦ c.in_default.not-Row r.0 r.1 | inr v ↦ none_vacant c.args.nodes.now c.requires.laid c.args.at c.requires.there v ])
 
 pub put-opened-requires : goal.put-opened-requires
 put-opened-requires t c =
@@ -54,8 +54,8 @@ bounds-nodes-at-3 t c =
     let r = roomed c.args.nodes.now c.requires.laid c.in-Some.kind c.args.at c.in-Some.size Vacant c.requires.there is in
     omega arith
 
-pub overflow-add-child-2 : goal.overflow-add-child-2
-overflow-add-child-2 t c =
+pub overflow_add-child-2 : goal.overflow_add-child-2
+overflow_add-child-2 t c =
     let is : get_or c.args.nodes.now c.args.at Vacant ≡ inner c.in-Some.kind c.in-Some.size = inner_some _ c.in-Some.kind c.in-Some.size (sym c.in-Some.is ∙ c.inner.ensures) in
     let r = roomed c.args.nodes.now c.requires.laid c.in-Some.kind c.args.at c.in-Some.size Vacant c.requires.there is in
     let w = within c.args.nodes.now c.requires.laid (c.args.at + 1) Vacant (omega arith) in
@@ -100,8 +100,8 @@ put_part-end-requires-in-loop-child t c =
       ),
     )
 
-pub overflow-add-child-in-loop-child : goal.overflow-add-child-in-loop-child
-overflow-add-child-in-loop-child t c =
+pub overflow_add-child-in-loop-child : goal.overflow_add-child-in-loop-child
+overflow_add-child-in-loop-child t c =
     let n : c.loop-child.child < length c.args.nodes.now = omega (arith, c.loop-child.invariant.1) in
     let w = within c.args.nodes.now c.requires.laid c.loop-child.child Vacant n in
     let k : c.loop-child.child + c.size-child.result ≤ length c.args.nodes.now = omega (arith, c.size-child.ensures) in

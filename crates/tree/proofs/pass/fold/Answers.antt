@@ -14,4 +14,4 @@ loop-at-preserved-in-Some g c =
 pub loop-at-preserved : goal.loop-at-preserved
 loop-at-preserved g c =
     down_row g.V.Combine.mean g.V.Combine.op c.args.nodes.now c.args.values.now c.loop-at.at (c.loop-at.at - 1) (omega arith) c.loop-at.values
-    (omega arith) c.loop-at.invariant (inner_none _ (sym c.in-default.is ∙ c.inner.ensures))
+    (omega arith) c.loop-at.invariant (inner_none _ (sym c.in_default.is ∙ c.inner.ensures))

@@ -11,8 +11,8 @@ bounds-values-child g c = omega (arith, roomed c.args.nodes.now c.requires.laid 
 pub bounds-nodes-child : goal.bounds-nodes-child
 bounds-nodes-child g c = omega (arith, roomed c.args.nodes.now c.requires.laid c.args.kind c.args.at c.args.size Vacant c.requires.inside c.requires.there)
 
-pub overflow-add-child-2 : goal.overflow-add-child-2
-overflow-add-child-2 g c =
+pub overflow_add-child-2 : goal.overflow_add-child-2
+overflow_add-child-2 g c =
     let r = roomed c.args.nodes.now c.requires.laid c.args.kind c.args.at c.args.size Vacant c.requires.inside c.requires.there in
     let w = within c.args.nodes.now c.requires.laid (c.args.at + 1) Vacant (omega arith) in
     let k : c.args.at + 1 + c.size-child.result ≤ length c.args.nodes.now = omega (arith, c.size-child.ensures) in
@@ -27,8 +27,8 @@ loop-child-init g c =
           c.requires.inside c.requires.there (omega arith) c.index-values-child.result c.index-values-child.is c.size-child.result c.size-child.ensures,
     )
 
-pub overflow-add-child-in-loop-child : goal.overflow-add-child-in-loop-child
-overflow-add-child-in-loop-child g c =
+pub overflow_add-child-in-loop-child : goal.overflow_add-child-in-loop-child
+overflow_add-child-in-loop-child g c =
     let w = within c.args.nodes.now c.requires.laid c.loop-child.child Vacant (omega arith) in
     let k : c.loop-child.child + c.size-child-in-loop-child.result ≤ length c.args.nodes.now = omega (arith, c.size-child-in-loop-child.ensures) in
     search rules
