@@ -3,7 +3,7 @@ use Rattle.std.proofs.Common.{◌≡◌, ℕ, ◌+◌, ◌-◌, ◌<◌, ◌≤�
 use mathlib.Core.List.{map-append}
 use lib.Seq.{set_at, set_split, paste}
 use borrow.Rule.Slice.PartMut.{put_mid}
-use Rattle.std.specs.List.{flat_map, AllByRecursion as All}
+use Rattle.std.specs.List.{flat_map, AllByRecursion}
 use Rattle.std.proofs.lemmas.List.{length-map, flat_map_more, take-append-drop}
 use Rattle.std.proofs.lemmas.Slice.{put_mid-paste}
 use Rattle.std.proofs.lemmas.List.Edits.{paste_all, paste-paste}
@@ -24,7 +24,7 @@ map_joined : (cs : List Formula) → flat_map nodes_of cs ≡ map node (flat_map
 map_joined [] = refl
 map_joined (c ∷ cs) = ap (λ ns. nodes_of c ++ ns) (map_joined cs) ∙ sym (map-append node (spans c) (flat_map spans cs))
 
-all_joined : (P : Formula → Type 0) (cs : List Formula) → All (λ c. All P (spans c)) cs → All P (flat_map spans cs)
+all_joined : (P : Formula → Type 0) (cs : List Formula) → AllByRecursion (λ c. AllByRecursion P (spans c)) cs → AllByRecursion P (flat_map spans cs)
 all_joined P [] a = tt
 all_joined P (c ∷ cs) a = All-append P (spans c) (flat_map spans cs) a.0 (all_joined P cs a.1)
 
@@ -34,7 +34,7 @@ kids_gather : (k : Kind) (f : Formula) (cs : List Formula) → kids k (gather k 
 kids_gather k f [] = sym (append-nil (kids k f))
 kids_gather k f (c ∷ cs) = kids_gather k (under k f c) cs ∙ ap (λ xs. xs ++ cs) (kids_under k f c) ∙ append_assoc (kids k f) (c ∷ []) cs
 
-kids_over : (k : Kind) (cs : List Formula) → 1 ≤ length cs → All (λ c. is_a k c ≡ false) cs → kids k (over k cs) ≡ cs
+kids_over : (k : Kind) (cs : List Formula) → 1 ≤ length cs → AllByRecursion (λ c. is_a k c ≡ false) cs → kids k (over k cs) ≡ cs
 kids_over k [] h a = absurd (let z : ⊥ = omega arith in z)
 kids_over k (c ∷ cs) h a = kids_gather k c cs ∙ ap (λ xs. xs ++ cs) (kids_other k c a.0)
 
@@ -78,7 +78,7 @@ is_over k (c ∷ d ∷ cs) ch =
       children = own;
       holding = holds_gather k c (d ∷ cs);
       naming = rows_gather k c (d ∷ cs);
-      canonical = λ a. subst (All Proper) (sym all) (proper k f g h e (subst (Children k) (sym own) ch), all_joined Proper (c ∷ d ∷ cs) a);
+      canonical = λ a. subst (AllByRecursion Proper) (sym all) (proper k f g h e (subst (Children k) (sym own) ch), all_joined Proper (c ∷ d ∷ cs) a);
       spanning = all;
       few = few alone h;
     }

@@ -1,6 +1,6 @@
 -- How long the text of a form is.
 use Rattle.std.proofs.Common.{◌≡◌, ℕ, ◌+◌, ◌*◌, ◌<◌, ◌≤◌, Bool, true, false, List, ◌++◌, length, sym, ◌∙◌, subst, arith, length-append}
-use Rattle.std.specs.List.{AllByRecursion as All}
+use Rattle.std.specs.List.{AllByRecursion}
 use Rattle.std.proofs.lemmas.Fmt.{length-decimal-le}
 use Rattle.tree.specs.Formulas.{Formula, row, under, rows, Form, never, form, form_rows}
 use Rattle.tree.specs.declared.Kind.{Kind}
@@ -20,7 +20,7 @@ brackets_length And b = omega arith
 brackets_length Or true = omega arith
 brackets_length Or false = omega arith
 
-short : (b : Bool) (f : Formula) → All (λ r. r < 256) (rows f) → length (formula_text b f) + 5 ≤ 9 * length (rows f)
+short : (b : Bool) (f : Formula) → AllByRecursion (λ r. r < 256) (rows f) → length (formula_text b f) + 5 ≤ 9 * length (rows f)
 short b (row r) a = omega (arith, length-decimal-le 3 r (omega arith) (omega (arith, a.0)) (omega (arith, a.0)))
 short b (under k f g) a =
     let (p, q) = all_halves (λ r. r < 256) (rows f) (rows g) a in
@@ -41,7 +41,7 @@ short b (under k f g) a =
     )
 
 -- a form of n rows below 256 has a text of at most 9 n + 5 bytes
-pub short_text : (F : Form) → All (λ r. r < 256) (form_rows F) → length (text F) ≤ 9 * length (form_rows F) + 5
+pub short_text : (F : Form) → AllByRecursion (λ r. r < 256) (form_rows F) → length (text F) ≤ 9 * length (form_rows F) + 5
 short_text never a = omega arith
 short_text (form f) a = omega (arith, short false f a)
 

@@ -1,6 +1,6 @@
 -- The formulas at the nodes, and the children of a node.
 use Rattle.std.proofs.Common.{◌≡◌, ℕ, ◌+◌, ◌*◌, ◌≤◌, true, false, List, [], ◌∷◌, ◌++◌, length, sym, refl, ap, ◌∙◌, append-nil, arith, length-append}
-use Rattle.std.specs.List.{flat_map, AllByRecursion as All}
+use Rattle.std.specs.List.{flat_map, AllByRecursion}
 use Rattle.std.proofs.lemmas.List.{flat_map_more}
 use Rattle.std.proofs.ByRecursion.{All-append}
 use Rattle.std.proofs.lemmas.Bool.{both_ways}
@@ -20,12 +20,12 @@ with_own Q (among Or) Or f fs p q = p
 
 -- what goes down from a formula to its parts gives what holds of the formulas at all its nodes
 pub all_spread : (Q P : Formula → Type 0) → ((r : ℕ) → Q (row r) → P (row r)) → ((k : Kind) (f g : Formula) → Q (under k f g) → P (under k f g) × Q f × Q g)
-    → (s : Stand) (f : Formula) → Q f → All P (spread s f)
+    → (s : Stand) (f : Formula) → Q f → AllByRecursion P (spread s f)
 all_spread Q P leaf down s (row r) q = (leaf r q, tt)
 all_spread Q P leaf down s (under k f g) q =
     let (p, a, b) = down k f g q in
     let ps = All-append P _ _ (all_spread Q P leaf down (among k) f a) (all_spread Q P leaf down alone g b) in
-    with_own (All P) s k (under k f g) _ ps (p, ps)
+    with_own (AllByRecursion P) s k (under k f g) _ ps (p, ps)
 
 -- a formula of n rows has at most 2 n − 1 nodes
 pub few : (s : Stand) (f : Formula) → length (spread s f) + 1 ≤ 2 * length (rows f)

@@ -1,6 +1,6 @@
 -- The text of a form: r and a row's number, children of an and parted by a space, those of an or by ` + `, brackets round an or inside an and.
 use Rattle.std.specs.Prelude.{◌≡◌, ℕ, ◌+◌, ◌*◌, ◌<◌, ◌≤◌, Bool, true, false, List, [], ◌∷◌, ◌++◌, length, codes, decimal}
-use Rattle.std.specs.List.{AllByRecursion as All}
+use Rattle.std.specs.List.{AllByRecursion}
 use Rattle.tree.specs.Formulas.{Formula, row, under, Form, never, form, form_rows}
 use Rattle.tree.specs.Layout.{laid}
 use Rattle.tree.specs.declared.Kind.{Kind}
@@ -42,4 +42,4 @@ text (form f) = formula_text false f
 
 -- the nodes lay out a form of n rows below 256, and there is room for 9 n + 5 bytes
 abbrev pub TextRoom : List Node → ℕ → Type 0
-TextRoom ns room = (F : Form) × (ns ≡ laid F) × All (λ r. r < 256) (form_rows F) × (9 * length (form_rows F) + 5 ≤ room)
+TextRoom ns room = (F : Form) × (ns ≡ laid F) × AllByRecursion (λ r. r < 256) (form_rows F) × (9 * length (form_rows F) + 5 ≤ room)

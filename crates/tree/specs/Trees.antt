@@ -1,6 +1,6 @@
 -- Formulas read as trees with any number of children.
 use Rattle.std.specs.Prelude.{◌≡◌, ℕ, ◌+◌, ◌*◌, ◌<◌, ◌≤◌, min, Bool, true, false, List, [], ◌∷◌, ◌++◌, map, length}
-use Rattle.std.specs.List.{flat_map, AllByRecursion as All}
+use Rattle.std.specs.List.{flat_map, AllByRecursion}
 use Rattle.tree.specs.Formulas.{World, Formula, row, under, connect, holds, rows}
 use Rattle.tree.specs.Nodes.{written}
 use Rattle.tree.specs.Layout.{spans, nodes_of}
@@ -35,12 +35,12 @@ lowest (under k f g) = min (lowest f) (lowest g)
 -- each number is below all that follow it
 abbrev pub Ascending : List ℕ → Type 0
 Ascending [] = Unit {0}
-Ascending (n ∷ ns) = All (λ m. n < m) ns × Ascending ns
+Ascending (n ∷ ns) = AllByRecursion (λ m. n < m) ns × Ascending ns
 
 -- the children of a node of the kind: at least two, none of the kind, by their lowest row
 pub record Children (k : Kind) (cs : List Formula) : Type 0 where
   pub two : 2 ≤ length cs
-  pub other : All (λ c. is_a k c ≡ false) cs
+  pub other : AllByRecursion (λ c. is_a k c ≡ false) cs
   pub order : Ascending (map lowest cs)
 
 abbrev pub Proper : Formula → Type 0
@@ -49,7 +49,7 @@ Proper (under k f g) = Children k (kids k (under k f g))
 
 -- a canonical formula: each and and or in it has such children
 abbrev pub Canonical : Formula → Type 0
-Canonical f = All Proper (spans f)
+Canonical f = AllByRecursion Proper (spans f)
 
 -- all the formulas hold, or some of them does
 abbrev pub hold : Kind → List Formula → World → Bool
@@ -72,7 +72,7 @@ pub record IsOver (k : Kind) (cs : List Formula) : Type 0 where
   pub children : kids k (over k cs) ≡ cs
   pub holding : (w : World) → holds (over k cs) w ≡ hold k cs w
   pub naming : rows (over k cs) ≡ flat_map rows cs
-  pub canonical : All Canonical cs → Canonical (over k cs)
+  pub canonical : AllByRecursion Canonical cs → Canonical (over k cs)
   pub spanning : spans (over k cs) ≡ over k cs ∷ flat_map spans cs
   pub few : length (spans (over k cs)) + 1 ≤ 2 * length (rows (over k cs))
 

@@ -1,6 +1,6 @@
 -- Rows laid out under one node.
 use Rattle.std.proofs.Common.{◌≡◌, ℕ, suc, ◌+◌, ◌<◌, ◌≤◌, Bool, true, false, ◌&&◌, leb, List, [], ◌∷◌, map, length, get_or, take, sym, refl, ap, ◌∙◌, subst, arith}
-use Rattle.std.specs.List.{flat_map, AllByRecursion as All}
+use Rattle.std.specs.List.{flat_map, AllByRecursion}
 use Rattle.std.proofs.lemmas.List.{length-map, take_more, map_push}
 use Rattle.std.proofs.lemmas.Bool.{leb-true, and_parts}
 use Rattle.tree.specs.declared.Kind.{Kind}
@@ -13,7 +13,7 @@ use Rattle.tree.specs.Passes.{Placed}
 use Rattle.tree.proofs.Building.{between_more, laid_first, is_over}
 use Rattle.tree.proofs.Placing.{placed}
 
-no_kind : (k : Kind) (rs : List ℕ) → All (λ c. is_a k c ≡ false) (map row rs)
+no_kind : (k : Kind) (rs : List ℕ) → AllByRecursion (λ c. is_a k c ≡ false) (map row rs)
 no_kind k [] = tt
 no_kind k (r ∷ rs) = (refl, no_kind k rs)
 
@@ -49,7 +49,7 @@ module _ (k : Kind) (rs : List ℕ) (two : 2 ≤ length rs) (order : Ascending r
   pub rows_laid : (m now : List Node) (n : ℕ) → now ≡ written m 0 (nodes_of (over k (map row rs))) → n ≡ 1 + length rs → take n now ≡ laid rows_form
   rows_laid m now n e l = subst (λ j. take j now ≡ laid rows_form) (nodes_length ∙ sym l) (laid_first m now (over k (map row rs)) e)
 
-  pub rows_placed : (ns : List Node) → ns ≡ laid rows_form → (n : ℕ) → All (λ r. r < n) rs → Placed ns n
+  pub rows_placed : (ns : List Node) → ns ≡ laid rows_form → (n : ℕ) → AllByRecursion (λ r. r < n) rs → Placed ns n
   rows_placed ns e n a = placed ns rows_form e n (rw ((is_over k (map row rs) (rows_children k rs two order)).naming, own_rows rs) a)
 
 -- numbers that ascend step by step
@@ -57,7 +57,7 @@ abbrev ascends : ℕ → List ℕ → Bool
 ascends n [] = true
 ascends n (m ∷ ms) = leb (n + 1) m && ascends m ms
 
-all_above : (n m : ℕ) (ms : List ℕ) → n < m → ascends m ms ≡ true → All (λ x. n < x) ms
+all_above : (n m : ℕ) (ms : List ℕ) → n < m → ascends m ms ≡ true → AllByRecursion (λ x. n < x) ms
 all_above n m [] h e = tt
 all_above n m (x ∷ xs) h e = let (p, q) = and_parts (leb (m + 1) x) (ascends x xs) e in let l = leb-true (m + 1) x p in (omega arith, all_above n x xs (omega arith) q)
 

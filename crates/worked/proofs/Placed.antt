@@ -1,6 +1,6 @@
 -- What the calls on the worked tree require.
 use Rattle.std.proofs.Common.{◌≡◌, ℕ, ◌<◌, ◌≤◌, List, arith}
-use Rattle.std.specs.List.{AllByRecursion as All}
+use Rattle.std.specs.List.{AllByRecursion}
 use Rattle.tree.specs.declared.Node.{Node}
 use Rattle.tree.specs.Formulas.{form, rows}
 use Rattle.tree.specs.Layout.{nodes_of}
@@ -9,7 +9,7 @@ use Rattle.tree.specs.Texts.{TextRoom}
 use Rattle.tree.proofs.Placing.{placed}
 use Rattle.worked.specs.Examples.{worked}
 
-below : (n : ℕ) → 5 ≤ n → All (λ r. r < n) (rows worked)
+below : (n : ℕ) → 5 ≤ n → AllByRecursion (λ r. r < n) (rows worked)
 below n h = (omega arith, (omega arith, (omega arith, (omega arith, (omega arith, tt)))))
 
 pub worked_placed : (ns : List Node) → ns ≡ nodes_of worked → Placed ns 5

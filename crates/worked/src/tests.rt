@@ -1,6 +1,6 @@
 //! Other worked trees: many rows under an or, two rows that are hardly sure, and never.
 ghost use Rattle.std.specs.Prelude.{◌<◌, ◌≤◌, length};
-ghost use Rattle.std.specs.List.{AllByRecursion as All};
+ghost use Rattle.std.specs.List.{AllByRecursion};
 ghost use Rattle.tree.specs.Trees.{Ascending};
 
 use super::lay::lay_rows;
@@ -11,7 +11,7 @@ use tree::{Kind, Node, chance, evaluate, write_form};
 fn count_under_or(rows: &[u8]) -> u64
     requires two { 2 ≤ length rows.now }
     requires order { Ascending rows.now }
-    requires small { All (λ r. r < 32) rows.now }
+    requires small { AllByRecursion (λ r. r < 32) rows.now }
     requires few { length rows.now ≤ 31 }
 {
     let mut nodes = [Node::Vacant; 32];
