@@ -1,5 +1,5 @@
 -- The record of a refusal, piece by piece.
-use Rattle.std.proofs.Common.{◌≡◌, ℕ, ◌+◌, ◌^◌, ◌<◌, ◌≤◌, List, [], ◌∷◌, ◌++◌, map, length, Ok, codes, decimal, sym, ap, ◌∙◌, append_assoc, arith, le-leb}
+use Rattle.std.proofs.Common.{◌≡◌, ℕ, ◌^◌, ◌<◌, ◌≤◌, List, [], ◌∷◌, ◌++◌, map, length, Ok, codes, decimal, sym, ap, ◌∙◌, append_assoc, arith, le-leb}
 use Rattle.std.proofs.lemmas.Fmt.{length-decimal-le}
 use Rattle.text.specs.Over.{over}
 use Rattle.text.proofs.Writing.{Wrote}

@@ -1,5 +1,5 @@
 //! The book itself: what it holds, and what each of its values keeps.
-ghost use Rattle.std.specs.Prelude.{◌≡◌, ℕ, ◌<◌, ◌≤◌, length, get_or, slice_index, slice_index_or};
+ghost use Rattle.std.specs.Prelude.{◌≡◌, ℕ, ◌<◌, ◌≤◌, length, slice_index, slice_index_or};
 ghost use Rattle.book.specs.Rows.{absent};
 ghost use Rattle.book.specs.Ledgers.{Wide, Within, Padded, VacantBeyond};
 
@@ -18,7 +18,7 @@ pub struct Book {
     ghost few: { (tables ≤ 8) × (given ≤ 256) },
     ghost wide: { (t : ℕ) → t < tables → Wide (slice_index widths t) },
     ghost within: { (r : ℕ) → r < given → Within tables (slice_index_or rows r absent) },
-    ghost small: { (r k : ℕ) → r < given → slice_index (get_or rows r absent).cells k < 4294967296 },
+    ghost small: { (r k : ℕ) → r < given → slice_index (slice_index_or rows r absent).cells k < 4294967296 },
     ghost padded: { (r : ℕ) → r < given → Padded widths (slice_index_or rows r absent) },
     ghost vacant: { VacantBeyond widths tables rows given },
 }

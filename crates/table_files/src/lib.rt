@@ -223,7 +223,7 @@ impl RecordPlaces {
 
     // The numbers of a row; or the first field, from 1, that breaks its rule.
     fn row(self, text: &[u8]) -> Result<Row, usize>
-        requires { (0 < self.fields) × (((k : ℕ) → Within text.now (slice_index_or self.places k nowhere))) }
+        requires { (0 < self.fields) × ((k : ℕ) → Within text.now (slice_index_or self.places k nowhere)) }
         ensures { (values : Values) (records : List Values) → Found text.now values records self → length values ≤ 5 → RowRead values result }
     {
         let fields = self.fields.min(5);
@@ -286,7 +286,7 @@ fn is_comma(text: &[u8], at: usize) -> bool
 // The fields of the record that starts at a byte.
 fn record_at(text: &[u8], start: usize) -> RecordPlaces
     requires { start ≤ length text.now }
-    ensures moves { (result.next ≤ length text.now) × ((start < length text.now → start < result.next)) }
+    ensures moves { (result.next ≤ length text.now) × (start < length text.now → start < result.next) }
     ensures some { 0 < result.fields }
     ensures within { (k : ℕ) → Within text.now (slice_index_or result.places k nowhere) }
     ensures found { (values : Values) (records : List Values) → File (drop start text.now) (values ∷ records) → Found text.now values records result }
@@ -360,7 +360,7 @@ fn field_number(content: &[u8], last: bool) -> Option<u32>
 
 // The numbers of fields, of which the last is a sureness; or the first field, from 1, that breaks its rule.
 fn numbers(text: &[u8], places: &[FieldPlace]) -> Result<[u32; 5], usize>
-    requires { (length places.now ≤ 5) × (((k : ℕ) → Within text.now (slice_index_or places.now k nowhere))) }
+    requires { (length places.now ≤ 5) × ((k : ℕ) → Within text.now (slice_index_or places.now k nowhere)) }
     ensures { (values : Values) → length values ≡ length places.now → ((k : ℕ) → k < length values → Holds text.now (slice_index_or places.now k nowhere) (slice_index_or values k [])) → Numbers values result }
 {
     let mut numbers = [0; 5];

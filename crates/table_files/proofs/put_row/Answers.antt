@@ -1,4 +1,4 @@
-use Rattle.std.proofs.Common.{◌≡◌, ◌+◌, ◌<◌, ◌≤◌, [], ◌∷◌, ◌++◌, map, length, get_or, take, decimal, sym, subst, append_assoc, arith, rules}
+use Rattle.std.proofs.Common.{◌≡◌, ◌<◌, ◌≤◌, [], ◌∷◌, ◌++◌, map, length, get_or, take, decimal, sym, subst, append_assoc, arith, rules}
 use Rattle.std.specs.List.{flat_map}
 use Rattle.table_files.specs.Grammar.{CR, LF}
 use Rattle.table_files.specs.Written.{decimals, piece}

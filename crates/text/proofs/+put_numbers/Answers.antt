@@ -1,7 +1,7 @@
-use Rattle.std.proofs.Common.{◌≡◌, ◌+◌, ◌-◌, ◌∷◌, length, get_or, take, drop, decimal, sym, refl, ap, ◌∙◌, subst, arith, length-append, rules}
+use Rattle.std.proofs.Common.{◌+◌, ◌-◌, ◌∷◌, length, get_or, take, drop, decimal, sym, ap, ◌∙◌, arith, length-append, rules}
 use Rattle.std.proofs.lemmas.List.{nil_from_length}
 use Rattle.text.specs.Over.{over, numbers_text}
-use Rattle.text.proofs.Writing.{Wrote, wrote_none, wrote_three, text_rest, text_one}
+use Rattle.text.proofs.Writing.{wrote_none, wrote_three, text_rest, text_one}
 use Rattle.text.proofs.+put_numbers.Goals as goal
 
 pub put_number-requires : goal.put_number-requires

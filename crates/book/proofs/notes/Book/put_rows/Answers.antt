@@ -1,7 +1,6 @@
-use Rattle.std.proofs.Common.{◌+◌, ◌++◌, length, get_or, take, sym, ap, ◌∙◌, subst, arith, take_all, rules}
+use Rattle.std.proofs.Common.{◌++◌, length, get_or, take, sym, ap, ◌∙◌, subst, arith, take_all, rules}
 use Rattle.text.proofs.Writing.{Wrote, wrote_none, wrote_more}
 use Rattle.table_files.specs.Written.{row_text}
-use Rattle.book.specs.Files.{to_file}
 use Rattle.book.specs.Rows.{absent}
 use Rattle.book.proofs.Filing.{rows_text, rows_text_same, rows_text_more}
 use Rattle.book.proofs.Keeping.{rows_counted, row_lawful}
