@@ -1,8 +1,8 @@
 -- What every book keeps is kept by one table more, one row more and one row changed.
-use Rattle.std.proofs.Common.{◌≡◌, ℕ, zero, suc, ◌+◌, ◌-◌, ◌<◌, ◌≤◌, ◌≢◌, List, length, get_or, drop, set, replicate, sym, ap, ◌∙◌, subst, inl, inr, arith, length-set, length-take-le, get_or-set_other, get_or-take, get_or-set_same, drop-drop, drop-set-lt}
-use native.Mathlib.Nat.{sub-zero, zero-sub, suc-sub-suc}
+use Rattle.std.proofs.Common.{◌≡◌, ℕ, suc, ◌+◌, ◌-◌, ◌<◌, ◌≤◌, ◌≢◌, List, length, get_or, drop, set, replicate, sym, ap, ◌∙◌, subst, inl, inr, arith, length-set, length-take-le, get_or-set_other, get_or-take, get_or-set_same, drop-drop, drop-set-lt}
 use lib.Seq.{drop-append_seam}
 use Rattle.std.proofs.lemmas.Bool.{cases_eq}
+use Rattle.std.proofs.lemmas.List.{drop-replicate}
 use Rattle.book.specs.declared.notes.Book.{Book}
 use Rattle.book.specs.declared.rows.Row.{Row}
 use Rattle.book.specs.Rows.{absent, new_row}
@@ -62,11 +62,6 @@ table_kept b w h wide = record {
       subst (λ v. drop v (get_or b.rows r absent).cells ≡ replicate (4 - v) 0) (sym same) (b.padded r l);
   vacant = (vacant_after b.widths b.tables 8 w 0 h b.vacant.0, b.vacant.1);
 }
-
-drop-replicate : {A : Type 0} (n m : ℕ) (d : A) → drop n (replicate m d) ≡ replicate (m - n) d
-drop-replicate zero m d = rw (sub-zero m)
-drop-replicate (suc n) zero d = rw (zero-sub (suc n))
-drop-replicate (suc n) (suc m) d = drop-replicate n m d ∙ ap (λ k. replicate k d) (sym (suc-sub-suc m n))
 
 -- a new row's cells are followed by 0
 pub new_padded : (ws cs : List ℕ) (t s : ℕ) → length cs ≡ get_or ws t 0 → Padded ws (new_row t cs s)

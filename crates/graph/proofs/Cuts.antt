@@ -64,7 +64,7 @@ cut_with : (joined : ℕ → ℕ → Bool) (v : ℕ) (rest : List ℕ) (side : �
     ((z : ℕ) → z ∈ rest → z ≢ v → side z ≡ false → joined v z ≡ false) →
     ((x z : ℕ) → x ∈ rest → z ∈ rest → z ≢ v → side x ≡ true → side z ≡ false → joined x z ≡ false) →
     Cut joined (v ∷ rest)
-cut_with joined v rest side y my y≢v sy from-v from-rest = record {
+cut_with joined v rest side y my y≢v sy from_v from_rest = record {
   side = λ u. eqb v u || side u;
   left = v;
   right = y;
@@ -79,9 +79,9 @@ cut_with joined v rest side y my y≢v sy from-v from-rest = record {
   where
     go : (x z : ℕ) → x ∈ (v ∷ rest) → z ∈ (v ∷ rest) → z ≢ v → (eqb v x ≡ true) ⊎ (side x ≡ true) → side z ≡ false → joined x z ≡ false
     go x z mx (inl e) n sx sz = absurd (n e)
-    go x z mx (inr mz) n (inl e) sz = rw (← (eqb-true v x e)) (from-v z mz n sz)
-    go x z (inl e) (inr mz) n (inr sx) sz = rw e (from-v z mz n sz)
-    go x z (inr mx) (inr mz) n (inr sx) sz = from-rest x z mx mz n sx sz
+    go x z mx (inr mz) n (inl e) sz = rw (← (eqb-true v x e)) (from_v z mz n sz)
+    go x z (inl e) (inr mz) n (inr sx) sz = rw e (from_v z mz n sz)
+    go x z (inr mx) (inr mz) n (inr sx) sz = from_rest x z mx mz n sx sz
 
 -- two graphs that are each other's complement: of two different members just one of them joins the two
 pub record Opposite (size : ℕ) (p q : ℕ → ℕ → Bool) : Type 0 where

@@ -14,9 +14,9 @@ use Rattle.graph.proofs.Theorem.{stuck}
 
 -- the set that is split has just the selected members
 module _ {size : ℕ} (selected : MemberSet) (below both : ℕ → Bool) (n : ℕ) (e : n ≡ size)
-    (is_below : (k : ℕ) → below k ≡ (ltb k 256 && ltb k n)) (is-both : (k : ℕ) → both k ≡ (member selected k && below k)) where
+    (is_below : (k : ℕ) → below k ≡ (ltb k 256 && ltb k n)) (is_both : (k : ℕ) → both k ≡ (member selected k && below k)) where
   same : (k : ℕ) → both k ≡ members_in size (member selected) k
-  same k = of_size selected below both size k (is_below k ∙ ap (λ m. ltb k 256 && ltb k m) e) (is-both k)
+  same k = of_size selected below both size k (is_below k ∙ ap (λ m. ltb k 256 && ltb k m) e) (is_both k)
 
   pub members_only : (x : ℕ) → both x ≡ true → x < size
   members_only x m = ltb-true x size (and_parts (member selected x) _ (sym (same x) ∙ m)).1

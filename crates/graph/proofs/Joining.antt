@@ -51,16 +51,16 @@ pub joining_more : {set left : ℕ → Bool} {before now : ℕ → ℕ → Bool}
     ((k : ℕ) → left' k ≡ (left k && not (eqb k x))) → ((k : ℕ) → others k ≡ (set k && not (eqb k x))) → ((b : ℕ) → row b ≡ (now x b || others b)) →
     ((b : ℕ) → after x b ≡ row b) → ((a b : ℕ) → a ≢ x → after a b ≡ now a b) → Joining set left before now → Joining set left' before after
 unfolding with_pairs
-joining_more {set} {left} {before} {now} left' others row after x mx is-left is-others is_row here elsewhere J = record {
-  among = λ k m. J.among k (and_parts _ _ (sym (is-left k) ∙ m)).0;
+joining_more {set} {left} {before} {now} left' others row after x mx is_left is_others is_row here elsewhere J = record {
+  among = λ k m. J.among k (and_parts _ _ (sym (is_left k) ∙ m)).0;
   done = λ a b. ⊎_elim (λ e. rw e (at_x b)) (λ n. elsewhere a b n ∙ J.done a b ∙ ap (λ t. before a b || ((set a && not t) && (set b && not (eqb a b)))) (sym (same a n))) (cases_eq a x);
 }
   where
     same : (a : ℕ) → a ≢ x → left' a ≡ left a
-    same a n = is-left a ∙ ap (λ t. left a && not t) (ne_eqb a x n) ∙ without_keeps (left a)
+    same a n = is_left a ∙ ap (λ t. left a && not t) (ne_eqb a x n) ∙ without_keeps (left a)
 
     gone : left' x ≡ false
-    gone = is-left x ∙ ap (λ t. left x && not t) (eq-eqb x x refl) ∙ and_right (left x) false refl
+    gone = is_left x ∙ ap (λ t. left x && not t) (eq-eqb x x refl) ∙ and_right (left x) false refl
 
     first : ℕ → Bool
     first k = set k && not (left k)
@@ -74,14 +74,14 @@ joining_more {set} {left} {before} {now} left' others row after x mx is-left is-
         into : row b ≡ true → with_pairs first' set before x b ≡ true
         into j = ⊎_elim
             (λ k. ⊎_elim (pairs_old first' set before x b) (λ t. absurd (both_ways _ (not-true _ (and_parts _ _ t.0).1) mx)) (pairs_cases first set before x b (sym (J.done x b) ∙ k)))
-            (λ k. let p = and_parts _ _ (sym (is-others b) ∙ k) in
+            (λ k. let p = and_parts _ _ (sym (is_others b) ∙ k) in
             pairs_new first' set before x b (and_from _ _ (J.among x mx) (not_from_false _ gone)) p.0 (λ e. eqb-false b x (not-true _ p.1) (sym e)))
             (or_cases _ _ (sym (is_row b) ∙ j))
 
         out : with_pairs first' set before x b ≡ true → row b ≡ true
         out j = is_row b ∙ ⊎_elim
             (λ k. or_left _ _ (J.done x b ∙ pairs_old first set before x b k))
-            (λ k. or_right _ _ (is-others b ∙ and_from _ _ k.1 (not_from_false _ (ne_eqb b x (λ e. k.2 (sym e))))))
+            (λ k. or_right _ _ (is_others b ∙ and_from _ _ k.1 (not_from_false _ (ne_eqb b x (λ e. k.2 (sym e))))))
             (pairs_cases first' set before x b j)
 
 pub joining_end : {set left : ℕ → Bool} {before after : ℕ → ℕ → Bool} → ((k : ℕ) → left k ≡ false) → Joining set left before after →
@@ -107,7 +107,7 @@ joined_graph {size} {joined} set after G among is = record {
 -- the members among a set's numbers
 pub of_size : (set : MemberSet) (below both : ℕ → Bool) (size k : ℕ) → below k ≡ (ltb k 256 && ltb k size) → both k ≡ (member set k && below k) →
     both k ≡ members_in size (member set) k
-of_size set below both size k is_below is-both = is-both ∙ same_truth _ _
+of_size set below both size k is_below is_both = is_both ∙ same_truth _ _
     (λ t. let p = and_parts _ _ t in and_from _ _ p.0 (and_parts _ _ (sym is_below ∙ p.1)).1)
     (λ t. let p = and_parts _ _ t in and_from _ _ p.0 (is_below ∙ and_from _ _ (lt-ltb k 256 (member_small set k p.0)) p.1))
 

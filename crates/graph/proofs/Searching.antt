@@ -29,15 +29,15 @@ pub record First (joined : ℕ → ℕ → Bool) (set : ℕ → Bool) (b c a : �
 -- what stands at one end of a joined pair: joined to the one, and not to the other
 pub end_fits : {joined : ℕ → ℕ → Bool} {set near far only end : ℕ → Bool} {b c : ℕ} → ((k : ℕ) → near k ≡ joined b k) → ((k : ℕ) → far k ≡ joined c k) →
     ((k : ℕ) → only k ≡ (near k && not (far k))) → ((k : ℕ) → end k ≡ (only k && set k)) → (k : ℕ) → end k ≡ true → First joined set b c k
-end_fits is-near is-far is-only is-end k m =
-    let p = and_parts _ _ (sym (is-end k) ∙ m) in
-    let q = and_parts _ _ (sym (is-only k) ∙ p.0) in
-    record { has = p.1; to_b = sym (is-near k) ∙ q.0; not_to_c = sym (is-far k) ∙ not-true _ q.1 }
+end_fits is_near is_far is_only is_end k m =
+    let p = and_parts _ _ (sym (is_end k) ∙ m) in
+    let q = and_parts _ _ (sym (is_only k) ∙ p.0) in
+    record { has = p.1; to_b = sym (is_near k) ∙ q.0; not_to_c = sym (is_far k) ∙ not-true _ q.1 }
 
 pub end_has : {joined : ℕ → ℕ → Bool} {set near far only end : ℕ → Bool} {b c : ℕ} → ((k : ℕ) → near k ≡ joined b k) → ((k : ℕ) → far k ≡ joined c k) →
     ((k : ℕ) → only k ≡ (near k && not (far k))) → ((k : ℕ) → end k ≡ (only k && set k)) → (k : ℕ) → First joined set b c k → end k ≡ true
-end_has is-near is-far is-only is-end k f =
-    is-end k ∙ and_from _ _ (is-only k ∙ and_from _ _ (is-near k ∙ f.to_b) (not_from_false _ (is-far k ∙ f.not_to_c))) f.has
+end_has is_near is_far is_only is_end k f =
+    is_end k ∙ and_from _ _ (is_only k ∙ and_from _ _ (is_near k ∙ f.to_b) (not_from_false _ (is_far k ∙ f.not_to_c))) f.has
 
 module _ {size : ℕ} {joined : ℕ → ℕ → Bool} (G : IsGraph size joined) {set : ℕ → Bool} {a b c d : ℕ} where
   pub chain_made : set b ≡ true → set c ≡ true → joined b c ≡ true → First joined set b c a → First joined set c b d → joined a d ≡ false →

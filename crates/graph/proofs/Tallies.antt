@@ -38,16 +38,16 @@ tally_mono f g (suc n) h =
 -- and passes less where one number is lost
 pub tally_less : (f g : ℕ → Bool) (x n : ℕ) → ((j : ℕ) → f j ≡ true → g j ≡ true) → x < n → f x ≡ false → g x ≡ true → tally f n < tally g n
 unfolding tally
-tally_less f g x zero h l no-x yes-x = absurd (let z : ⊥ = omega arith in z)
-tally_less f g x (suc n) h l no-x yes-x =
+tally_less f g x zero h l no_x yes_x = absurd (let z : ⊥ = omega arith in z)
+tally_less f g x (suc n) h l no_x yes_x =
     ⊎_elim
     (λ e.
-    let a = ap one_if (ap f e ∙ no-x) in
-    let b = ap one_if (ap g e ∙ yes-x) in
+    let a = ap one_if (ap f e ∙ no_x) in
+    let b = ap one_if (ap g e ∙ yes_x) in
     let r = tally_mono f g n h in
     omega arith)
     (λ ne.
-    let r = tally_less f g x n h (omega arith) no-x yes-x in
+    let r = tally_less f g x n h (omega arith) no_x yes_x in
     cond_both (f n) 1 0 (λ t. t + tally f n < cond (g n) 1 0 + tally g n)
     (λ e. let s = ap one_if (h n e) in omega arith) (λ _. omega arith))
     (cases_eq n x)

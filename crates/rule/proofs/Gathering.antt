@@ -166,11 +166,11 @@ module _ {text : List ℕ} {rule : Rule} {at : ℕ} {before : List Said} (g : Ga
     answers_after : scan State.start 0 text ≡ answer text (State.end after) end
     answers_after = g.answers ∙ f.3.2 before
 
-    module _ (next-rule : Rule) (n : next-rule.count ≡ rule.count + 1) (m : atoms_of next-rule ≡ atoms_of rule ++ (a ∷ [])) where
-      pub keeps_after : atoms_of next-rule ≡ map kept after
+    module _ (next_rule : Rule) (n : next_rule.count ≡ rule.count + 1) (m : atoms_of next_rule ≡ atoms_of rule ++ (a ∷ [])) where
+      pub keeps_after : atoms_of next_rule ≡ map kept after
       keeps_after = m ∙ (ap (λ l. l ++ (a ∷ [])) g.keeps ∙ (ap (λ x. map kept before ++ (x ∷ [])) f.3.1 ∙ sym (map_push kept before f.3.0)))
 
-      pub gathered_more : (place : ℕ) → Stands text end Comma place → Gathered text next-rule (place + 1) after
+      pub gathered_more : (place : ℕ) → Stands text end Comma place → Gathered text next_rule (place + 1) after
       gathered_more place h =
           record {
             keeps = keeps_after;

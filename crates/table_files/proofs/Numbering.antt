@@ -84,9 +84,9 @@ module _ (text : List ℕ) (places : List FieldPlace) (field : ℕ) (left : List
                   let k = h.so_far values s g m in (k.0, get_or-set_other ns field g n 0 (omega arith) ∙ k.1)
               | inr m ↦
                   let k = number_here some rest e (Some n) number values s in
-                  let g-is : field ≡ g = omega arith in
+                  let g_is : field ≡ g = omega arith in
                   let lt : field < length ns = omega (arith, left_length, h.room) in
-                  subst (λ j. Rule values j × (get_or (set ns field n) j 0 ≡ digits_value 10 (get_or values j []))) g-is
+                  subst (λ j. Rule values j × (get_or (set ns field n) j 0 ≡ digits_value 10 (get_or values j []))) g_is
                   (rule_from some rest e (Some n) number values s k.0, get_or-set_same ns field n 0 lt ∙ k.1)
             ];
         beyond = λ g l. get_or-set_other ns field g n 0 (omega arith) ∙ h.beyond g (omega arith);

@@ -96,7 +96,7 @@ module _ (text : List ℕ) (at count : ℕ) (rows : List (List (List ℕ))) (few
       )
 
   pub rows_more : ((f : ℕ) → o ≡ Err f → ⊥) → Through Sound text r.next (count + 1) rows
-  rows_more no-err = through_more _ text at count rows h lt r.next this.rest (sound o no-err read)
+  rows_more no_err = through_more _ text at count rows h lt r.next this.rest (sound o no_err read)
     where
       sound : (p : Result Row ℕ) → ((f : ℕ) → p ≡ Err f → ⊥) → RowRead (get_or rows count []) p → Sound (get_or rows count [])
       sound (Ok x) none k = k.0

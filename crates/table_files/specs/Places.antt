@@ -1,6 +1,6 @@
 -- Where the fields of a record stand in a text: for the contracts of the walk's own functions.
 use Rattle.std.specs.Prelude.{◌≡◌, ℕ, ◌+◌, ◌-◌, ◌<◌, ◌≤◌, Bool, false, cond, ◌⊎◌, List, [], ◌∷◌, ◌++◌, length, take, drop, Some, None, Ok, Err, Option, Result, nat_lt, slice_index, slice_index_or, slice_set}
-use Rattle.std.specs.Str.Parse.{digits_value as value}
+use Rattle.std.specs.Str.Parse.{digits_value}
 use Rattle.std.specs.List.{AllByRecursion}
 use Rattle.table_files.specs.declared.FieldPlace.{FieldPlace}
 use Rattle.table_files.specs.declared.Place.{Place}
@@ -50,7 +50,7 @@ Content raw value = NonEscaped raw value ⊎ Inside raw value
 
 -- the number of a field that keeps its rule, or none
 abbrev pub Number : Bool → Bytes → Option ℕ → Type 0
-Number last v (Some n) = (Numeral v ⊎ ((v ≡ []) × (last ≡ false))) × (n ≡ value 10 v)
+Number last v (Some n) = (Numeral v ⊎ ((v ≡ []) × (last ≡ false))) × (n ≡ digits_value 10 v)
 Number last v None = Numeral v ⊎ ((v ≡ []) × (last ≡ false)) → ⊥
 
 -- field f, from 0, is the first of a row that breaks its rule
@@ -60,7 +60,7 @@ FirstWrong values f = (f < length values) × (Rule values f → ⊥) × ((g : �
 -- the numbers of a row's fields, 0 past them; or the first field, from 1, that breaks its rule
 abbrev pub Numbers : Values → Result (List ℕ) ℕ → Type 0
 Numbers values (Ok ns) =
-    (length ns ≡ 5) × Sound values × ((k : ℕ) → k < length values → slice_index ns k ≡ value 10 (slice_index_or values k []))
+    (length ns ≡ 5) × Sound values × ((k : ℕ) → k < length values → slice_index ns k ≡ digits_value 10 (slice_index_or values k []))
     × ((k : ℕ) → length values ≤ k → slice_index ns k ≡ 0)
 Numbers values (Err f) = (g : ℕ) × (f ≡ g + 1) × FirstWrong values g
 

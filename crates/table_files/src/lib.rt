@@ -2,7 +2,7 @@
 #![tactic(auto)]
 
 ghost use Rattle.std.specs.Prelude.{◌≡◌, ℕ, ◌+◌, ◌^◌, ◌<◌, ◌≤◌, true, false, ◌&&◌, List, [], ◌∷◌, length, drop, is_some, if◌then◌else◌, Some, None, decimal, Decides, MatchOption, MatchResult, slice_index, slice_index_or};
-ghost use Rattle.std.specs.Str.Parse.{digits_value as value};
+ghost use Rattle.std.specs.Str.Parse.{digits_value};
 ghost use Rattle.std.specs.List.{AllByRecursion};
 ghost use Rattle.table_files.specs.Grammar.{Breaks, Bytes, COMMA, DQUOTE, Field, File, Lawful, Values};
 ghost use Rattle.table_files.specs.Places.{Content, EndsAt, Found, Holds, Number, Numbers, RowCount, RowRead, RowsChecked, Width, Within, nowhere, pushed};
@@ -333,7 +333,7 @@ fn unquoted(raw: &[u8]) -> &[u8]
 // The number that 1 to 10 digits write, if 32 bits hold it.
 fn number(digits: &[u8]) -> Option<u32>
     requires { 0 < length digits.now }
-    ensures { MatchOption result (Numeral digits.now → ⊥) (λ n. Numeral digits.now × (n ≡ value 10 digits.now)) }
+    ensures { MatchOption result (Numeral digits.now → ⊥) (λ n. Numeral digits.now × (n ≡ digits_value 10 digits.now)) }
 {
     if digits.len() > 10 {
         return None;

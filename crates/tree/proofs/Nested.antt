@@ -7,7 +7,7 @@ use Rattle.tree.specs.Formulas.{Formula, row, under, Form, never, form}
 use Rattle.tree.specs.declared.Kind.{Kind}
 use Rattle.tree.specs.declared.Kind.TheVariants.{And, Or}
 use Rattle.tree.specs.declared.Node.{Node}
-use Rattle.tree.specs.declared.Node.TheVariants.{Vacant, Row, And as and-node, Or as or-node}
+use Rattle.tree.specs.declared.Node.TheVariants.{Vacant, Row, And as and_node, Or as or_node}
 use Rattle.tree.specs.Nodes.{size_of, inner, inner_of}
 use Rattle.tree.specs.Layout.{Stand, alone, among, spread, spans, node, parts, laid}
 use Rattle.tree.proofs.Spreads.{with_own, leads, spans_under}
@@ -108,14 +108,14 @@ rebuilt (Some p) = inner p.0 p.1
 pub inner_some : (n : Node) (k : Kind) (m : ℕ) → Some (k, m) ≡ inner_of n → n ≡ inner k m
 inner_some Vacant k m e = absurd (let z : ◌≡◌ {A = ℕ} 0 1 = cc in let y : ⊥ = omega arith in y)
 inner_some (Row r) k m e = absurd (let z : ◌≡◌ {A = ℕ} 0 1 = cc in let y : ⊥ = omega arith in y)
-inner_some (and-node n) k m e = sym (ap rebuilt e)
-inner_some (or-node n) k m e = sym (ap rebuilt e)
+inner_some (and_node n) k m e = sym (ap rebuilt e)
+inner_some (or_node n) k m e = sym (ap rebuilt e)
 
 pub inner_none : (n : Node) → None ≡ inner_of n → ((r : ℕ) × (n ≡ Row r)) ⊎ (n ≡ Vacant)
 inner_none Vacant e = inr refl
 inner_none (Row r) e = inl (r, refl)
-inner_none (and-node n) e = absurd (let z : ◌≡◌ {A = ℕ} 0 1 = cc in let y : ⊥ = omega arith in y)
-inner_none (or-node n) e = absurd (let z : ◌≡◌ {A = ℕ} 0 1 = cc in let y : ⊥ = omega arith in y)
+inner_none (and_node n) e = absurd (let z : ◌≡◌ {A = ℕ} 0 1 = cc in let y : ⊥ = omega arith in y)
+inner_none (or_node n) e = absurd (let z : ◌≡◌ {A = ℕ} 0 1 = cc in let y : ⊥ = omega arith in y)
 
 -- an and's or an or's own formulas: itself, and its children's
 pub inner_node : (k : Kind) (f : Formula) (n : ℕ) → node f ≡ inner k n → (spans f ≡ f ∷ spread (among k) f) × (length (spans f) ≡ n)
