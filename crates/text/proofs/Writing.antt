@@ -6,6 +6,8 @@ use Rattle.std.proofs.lemmas.Slice.{put_mid-paste, first_rest}
 use Rattle.std.proofs.lemmas.List.Edits.{paste_all, paste-paste}
 use Rattle.std.proofs.lemmas.Fmt.{length-decimal-le}
 use Rattle.text.specs.Over.{over, numbers_text}
+use Rattle.text.specs.Writers.{Wrote as Writes, room_of}
+use Rattle.text.specs.declared.writer.Writer.{Writer}
 
 over_paste : (out : List ℕ) (at : ℕ) (s : List ℕ) → over out at s ≡ paste out at s (length s)
 over_paste out at s = sym (paste_all out at s (length s) refl)
@@ -84,3 +86,17 @@ numbers_short gap (n ∷ []) h = omega (arith, digits_short n (h 0 (omega arith)
 numbers_short gap (n ∷ m ∷ ns) h =
     let rest = numbers_short gap (m ∷ ns) (λ i l. h (suc i) (omega arith)) in
     omega (arith, length-append (decimal n) (gap ∷ numbers_text gap (m ∷ ns)), digits_short n (h 0 (omega arith)))
+
+-- two texts, one behind the other
+pub wrote_both : {a b c : Writer} {s t : List ℕ} → Writes a b s → Writes b c t → a.at ≤ room_of a → Writes a c (s ++ t)
+wrote_both {a} {b} {c} {s} {t} f g l =
+    record {
+      memory = g.memory ∙ f.memory;
+      room = g.room ∙ f.room;
+      bytes = then a.out.now b.out.now c.out.now a.at b.at s t l f.bytes f.place g.bytes;
+      place = omega (arith, f.place, g.place, length-append s t);
+    }
+
+-- an equal text
+pub wrote_as : {a b : Writer} {s t : List ℕ} → s ≡ t → Writes a b s → Writes a b t
+wrote_as {a} {b} e w = rw (← e) w

@@ -4,6 +4,10 @@
 ghost use Rattle.std.specs.Prelude.{◌≡◌, ◌+◌, ◌≤◌, length, decimal};
 ghost use Rattle.text.specs.Over.{over, numbers_text};
 
+mod writer;
+
+pub use writer::Writer;
+
 /// Writes some bytes at a place, and answers the place after them. The caller has proved that they fit.
 pub fn put(bytes: &[u8], out: &mut [u8], at: usize) -> usize
     requires { at + length bytes.now ≤ length out.old }

@@ -1,0 +1,50 @@
+//! A writer of text into lent bytes.
+ghost use Rattle.std.specs.Prelude.{◌≡◌, ◌+◌, ◌≤◌, length, decimal};
+
+/// Writes texts into lent bytes, one after the other.
+#[derive(Drop)]
+pub struct Writer<'a> {
+    out: &'a mut [u8],
+    at: usize,
+}
+
+impl<'a> Writer<'a> {
+    ghost use Rattle.text.specs.Writers.{Wrote, room_of};
+
+    /// A writer that begins at the first byte.
+    pub fn new(out: &'a mut [u8]) -> Writer<'a>
+        ensures memory { result.out.ghost_name ≡ out.entry.ghost_name }
+        ensures bytes { result.out.now ≡ out.old }
+        ensures place { result.at ≡ 0 }
+    {
+        Writer { out, at: 0 }
+    }
+
+    /// The number of bytes up to the writer's place.
+    pub fn place(&self) -> usize
+        ensures { result ≡ self.now.at }
+    {
+        self.at
+    }
+
+    /// Writes some bytes. The caller has shown that they fit.
+    pub fn put(&mut self, bytes: &[u8])
+        requires { self.old.at + length bytes.now ≤ room_of self.old }
+        ensures { Wrote self.old self.new bytes.now }
+    {
+        let end = self.at + bytes.len();
+        self.out[self.at..end].copy_from_slice(bytes);
+        self.at = end;
+    }
+
+    /// Writes a number in decimal digits. The caller has shown that they fit.
+    pub fn put_number(&mut self, number: usize)
+        requires { self.old.at + length (decimal number) ≤ room_of self.old }
+        ensures { Wrote self.old self.new (decimal number) }
+    {
+        if number >= 10 {
+            self.put_number(number / 10);
+        }
+        self.put(&[b'0' + (number % 10) as u8]);
+    }
+}
