@@ -1,5 +1,6 @@
 -- Texts written one after the other are one text.
-use Rattle.std.proofs.Common.{◌≡◌, ℕ, suc, ◌+◌, ◌-◌, ◌*◌, ◌^◌, ◌<◌, ◌≤◌, List, [], ◌∷◌, ◌++◌, length, get_or, take, drop, decimal, sym, refl, ap, ◌∙◌, ap₂, append_assoc, add-zero, arith, length-append, take-append-drop}
+use Rattle.std.proofs.Common.{◌≡◌, ℕ, suc, ◌+◌, ◌-◌, ◌*◌, ◌^◌, ◌<◌, ◌≤◌, List, [], ◌∷◌, ◌++◌, length, get_or, take, drop, decimal, sym, refl, ap, ◌∙◌, ap₂, append_assoc, append-nil, add-zero, add-one, drop-cons, arith, length-append, take-append-drop}
+use Rattle.std.proofs.Math.ListN.{drop_of_length-le}
 use lib.Seq.{paste}
 use borrow.Rule.Slice.PartMut.{put_mid}
 use Rattle.std.proofs.lemmas.Slice.{put_mid-paste, first_rest}
@@ -100,3 +101,63 @@ wrote_both {a} {b} {c} {s} {t} f g l =
 -- an equal text
 pub wrote_as : {a b : Writer} {s t : List ℕ} → s ≡ t → Writes a b s → Writes a b t
 wrote_as {a} {b} e w = rw (← e) w
+
+-- numbers in decimal digits, each with a byte before it
+abbrev pub behind : (gap : ℕ) → List ℕ → List ℕ
+behind gap [] = []
+behind gap (n ∷ ns) = gap ∷ (decimal n ++ behind gap ns)
+
+pub numbers_text-behind : (gap n : ℕ) (ns : List ℕ) → numbers_text gap (n ∷ ns) ≡ decimal n ++ behind gap ns
+numbers_text-behind gap n [] = sym (append-nil (decimal n))
+numbers_text-behind gap n (m ∷ ns) = ap (λ x. decimal n ++ (gap ∷ x)) (numbers_text-behind gap m ns)
+
+-- of the text of some numbers the first is written, and of the rest those before a place
+pub record Begun (gap : ℕ) (numbers rest : List ℕ) (i : ℕ) (start now : Writer) : Type 0 where
+  pub done : List ℕ
+  pub wrote : Writes start now done
+  pub left : numbers_text gap numbers ≡ done ++ behind gap (drop i rest)
+
+first_left : (gap : ℕ) (numbers : List ℕ) → 0 < length numbers
+    → numbers_text gap numbers ≡ decimal (get_or numbers 0 0) ++ behind gap (take (length numbers - 1) (drop 1 numbers))
+first_left gap numbers h = ap (numbers_text gap) (first_rest numbers 0 h) ∙ numbers_text-behind gap _ _
+
+pub first_room : (gap : ℕ) (numbers : List ℕ) (start : Writer) → 0 < length numbers → start.at + length (numbers_text gap numbers) ≤ room_of start
+    → start.at + length (decimal (get_or numbers 0 0)) ≤ room_of start
+first_room gap numbers start h r =
+    omega (arith, ap length (first_left gap numbers h), length-append (decimal (get_or numbers 0 0)) (behind gap (take (length numbers - 1) (drop 1 numbers))), r)
+
+pub begun_first : {gap : ℕ} {numbers : List ℕ} {start now : Writer} → 0 < length numbers → Writes start now (decimal (get_or numbers 0 0))
+    → Begun gap numbers (take (length numbers - 1) (drop 1 numbers)) 0 start now
+begun_first {gap} {numbers} h w = record {
+  done = decimal (get_or numbers 0 0);
+  wrote = w;
+  left = first_left gap numbers h;
+}
+
+-- the next number, with the byte before it
+next_left : (gap : ℕ) (numbers rest done : List ℕ) (i : ℕ) → numbers_text gap numbers ≡ done ++ behind gap (drop i rest) → i < length rest
+    → numbers_text gap numbers ≡ (done ++ (gap ∷ decimal (get_or rest i 0))) ++ behind gap (drop (i + 1) rest)
+next_left gap numbers rest done i e h =
+    e ∙ ap (λ xs. done ++ behind gap xs) (drop-cons rest i 0 h ∙ ap (λ k. get_or rest i 0 ∷ drop k rest) (sym (add-one i)))
+    ∙ sym (append_assoc done (gap ∷ decimal (get_or rest i 0)) (behind gap (drop (i + 1) rest)))
+
+pub begun_room : {gap : ℕ} {numbers rest : List ℕ} {i : ℕ} {start now : Writer} → Begun gap numbers rest i start now → i < length rest
+    → start.at + length (numbers_text gap numbers) ≤ room_of start → now.at + (1 + length (decimal (get_or rest i 0))) ≤ room_of now
+begun_room {gap} {numbers} {rest} {i} b h r =
+    let e = ap length (next_left gap numbers rest b.done i b.left h) in
+    omega (arith, e, b.wrote.place, b.wrote.room, length-append (b.done ++ (gap ∷ decimal (get_or rest i 0))) (behind gap (drop (i + 1) rest)), length-append b.done (gap ∷ decimal (get_or rest i 0)), r)
+
+pub begun_more : {gap : ℕ} {numbers rest : List ℕ} {i : ℕ} {start now mid next : Writer} → Begun gap numbers rest i start now → i < length rest
+    → Writes now mid (gap ∷ []) → Writes mid next (decimal (get_or rest i 0)) → start.at + length (numbers_text gap numbers) ≤ room_of start
+    → Begun gap numbers rest (i + 1) start next
+begun_more {gap} {numbers} {rest} {i} b h f g r =
+    let k = begun_room b h r in
+    record {
+      done = b.done ++ (gap ∷ decimal (get_or rest i 0));
+      wrote = wrote_both b.wrote (wrote_both f g (omega arith)) (omega arith);
+      left = next_left gap numbers rest b.done i b.left h;
+    }
+
+pub begun_all : {gap : ℕ} {numbers rest : List ℕ} {i : ℕ} {start now : Writer} → Begun gap numbers rest i start now → length rest ≤ i → Writes start now (numbers_text gap numbers)
+begun_all {gap} {numbers} {rest} {i} b h =
+    wrote_as (sym (b.left ∙ ap (λ xs. b.done ++ behind gap xs) (drop_of_length-le rest h) ∙ append-nil b.done)) b.wrote

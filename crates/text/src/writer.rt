@@ -9,6 +9,7 @@ pub struct Writer<'a> {
 }
 
 impl<'a> Writer<'a> {
+    ghost use Rattle.text.specs.Over.{numbers_text};
     ghost use Rattle.text.specs.Writers.{Wrote, room_of};
 
     /// A writer that begins at the first byte.
@@ -46,5 +47,19 @@ impl<'a> Writer<'a> {
             self.put_number(number / 10);
         }
         self.put(&[b'0' + (number % 10) as u8]);
+    }
+    /// Writes numbers in decimal digits, with a byte between two of them. The caller has shown that they fit.
+    pub fn put_numbers(&mut self, numbers: &[usize], gap: u8)
+        requires { self.old.at + length (numbers_text gap numbers.now) ≤ room_of self.old }
+        ensures { Wrote self.old self.new (numbers_text gap numbers.now) }
+    {
+        let [first, rest @ ..] = numbers else {
+            return;
+        };
+        self.put_number(*first);
+        for number in rest {
+            self.put(&[gap]);
+            self.put_number(*number);
+        }
     }
 }
