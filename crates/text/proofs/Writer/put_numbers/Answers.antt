@@ -1,6 +1,6 @@
 use Rattle.std.proofs.Common.{arith}
 use Rattle.text.proofs.Writing.{first_room, begun_first, begun_room, begun_more, begun_all}
-use Rattle.text.proofs.writer.Writer.put_numbers.Goals as goal
+use Rattle.text.proofs.Writer.put_numbers.Goals as goal
 
 pub put_number-requires : goal.put_number-requires
 put_number-requires c = first_room _ _ c.args.self.now (omega arith) c.requires
