@@ -1,7 +1,7 @@
 -- What a writer leaves in its memory.
 use Rattle.std.specs.Prelude.{◌≡◌, ℕ, ◌+◌, List, length}
 use Rattle.text.specs.Over.{over}
-use Rattle.text.specs.declared.writer.Writer.{Writer}
+use Rattle.text.specs.declared.Writer.{Writer}
 
 -- how many bytes the memory has
 abbrev pub room_of : Writer → ℕ

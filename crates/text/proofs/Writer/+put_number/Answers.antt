@@ -1,8 +1,8 @@
 use Rattle.std.proofs.Common.{◌≡◌, ◌+◌, ◌/◌, ◌%◌, ◌^◌, ◌<◌, [], ◌∷◌, length, decimal, sym, ap, arith, length-append, rules}
 use Rattle.std.proofs.lemmas.Fmt.{decimal_digit, decimal_step}
 use Rattle.text.proofs.Writing.{wrote_both, wrote_as}
-use Rattle.text.proofs.writer.Writer.+put_number.Goals.{then-number-ge10, else-number-ge10}
-use Rattle.text.proofs.writer.Writer.+put_number.Goals as goal
+use Rattle.text.proofs.Writer.+put_number.Goals.{then-number-ge10, else-number-ge10}
+use Rattle.text.proofs.Writer.+put_number.Goals as goal
 
 pub put_number-requires : goal.put_number-requires
 put_number-requires t c =
