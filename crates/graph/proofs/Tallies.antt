@@ -1,9 +1,10 @@
 -- How many numbers pass a test. Assumes nothing.
-use Rattle.std.proofs.Common.{◌≡◌, ℕ, zero, suc, ◌+◌, ◌*◌, ◌/◌, ◌%◌, ◌^◌, ◌<◌, ◌≤◌, Bool, true, false, cond, not, ◌&&◌, eqb, List, get_or, sym, refl, ap, ◌∙◌, ⊎_elim, pow-suc, arith}
+use Rattle.std.proofs.Common.{◌≡◌, ℕ, zero, suc, ◌+◌, ◌*◌, ◌/◌, ◌%◌, ◌^◌, ◌<◌, ◌≤◌, Bool, true, false, cond, not, ◌&&◌, eqb, List, get_or, Some, sym, refl, ap, ◌∙◌, ⊎_elim, pow-suc, arith}
 use lib.Count.{ones, ones_step}
 use Rattle.std.proofs.lemmas.Bool.{cases_eq, lt-ltb, cond_both, and_parts, and_right, not_from_true, eq-eqb}
-use Rattle.graph.specs.Members.{bit, tally}
-use Rattle.graph.proofs.Bits.{has_bit, in_set, bit_suc}
+use Rattle.graph.specs.declared.sets.MemberSet.{MemberSet}
+use Rattle.graph.specs.Members.{bit, member, tally, TakesLowest}
+use Rattle.graph.proofs.Bits.{has_bit, in_set, bit_suc, member_small}
 
 -- one where the test is true
 abbrev one_if : Bool → ℕ
@@ -120,3 +121,6 @@ pub tally_removed : (f g : ℕ → Bool) (x : ℕ) → x < 256 → f x ≡ true 
 tally_removed f g x l m is =
     tally_less g f x 256 (λ k t. (and_parts _ _ (sym (is k) ∙ t)).0) l
     (is x ∙ and_right (f x) (not (eqb x x)) (not_from_true _ (eq-eqb x x refl))) m
+
+pub taken_less : (s t : MemberSet) (x : ℕ) → TakesLowest (member s) (Some x) (member t) → tally (member t) 256 < tally (member s) 256
+taken_less s t x h = tally_removed (member s) (member t) x (member_small s x h.0.0) h.0.0 h.1

@@ -12,8 +12,7 @@ pub fn chain<G: Graph>(graph: &G, selected: MemberSet) -> Option<[u8; 4]>
     ensures { FindsChain (G.Graph.joins graph.now) (member selected) result }
 {
     let mut left = selected;
-    while let Some(b) = left.lowest() {
-        left.remove(b);
+    while let Some(b) = left.pop_first() {
         if let Some(found) = chain_about(graph, selected, b, left) {
             return Some(found);
         }
@@ -32,9 +31,7 @@ fn chain_about<G: Graph>(
     requires among { (c : ℕ) → member thirds c ≡ true → member selected c ≡ true }
     ensures { FindsAbout (G.Graph.joins graph.now) (member selected) b (member thirds) result }
 {
-    let mut left = graph.neighbours(b).intersection(thirds);
-    while let Some(c) = left.lowest() {
-        left.remove(c);
+    for c in graph.neighbours(b).intersection(thirds) {
         if let Some(found) = chain_around(graph, selected, b, c) {
             return Some(found);
         }
@@ -52,9 +49,8 @@ fn chain_around<G: Graph>(graph: &G, selected: MemberSet, b: u8, c: u8) -> Optio
     let near_b = graph.neighbours(b);
     let near_c = graph.neighbours(c);
     let last = near_c.difference(near_b).intersection(selected);
-    let mut first = near_b.difference(near_c).intersection(selected);
-    while let Some(a) = first.lowest() {
-        first.remove(a);
+    let first = near_b.difference(near_c).intersection(selected);
+    for a in first {
         if let Some(d) = last.difference(graph.neighbours(a)).lowest() {
             return Some([a, b, c, d]);
         }

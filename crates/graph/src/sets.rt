@@ -1,6 +1,7 @@
 //! Sets of the numbers 0 to 255, over four words.
 ghost use Rattle.std.specs.Prelude.{◌≡◌, ℕ, ◌<◌, ◌≤◌, false, not, ◌&&◌, ◌||◌, Decides, ◌==◌, count_ones, nat_lt};
-ghost use Rattle.graph.specs.Members.{bit, member, tally, Lowest};
+ghost use Rattle.std.specs.Iterator.{at_most};
+ghost use Rattle.graph.specs.Members.{bit, member, tally, Lowest, TakesLowest};
 
 /// A set of the numbers 0 to 255: number k is bit k % 64 of word k / 64.
 #[derive(Clone, Copy)]
@@ -96,6 +97,15 @@ impl MemberSet {
         None
     }
 
+    /// Takes the lowest number out, or none where the set is empty.
+    pub fn pop_first(&mut self) -> Option<u8>
+        ensures { TakesLowest (member self.old) result (member self.new) }
+    {
+        let first = self.lowest()?;
+        self.remove(first);
+        Some(first)
+    }
+
     /// Whether the set has no number.
     pub fn is_empty(self) -> bool
         ensures { Decides result ((k : ℕ) → member self k ≡ false) }
@@ -109,6 +119,36 @@ impl MemberSet {
     {
         let [a, b, c, d] = self.words;
         set_bits(a) + set_bits(b) + set_bits(c) + set_bits(d)
+    }
+}
+
+/// The numbers of a set, from the lowest on.
+#[derive(Clone, Copy)]
+pub struct Members {
+    left: MemberSet,
+}
+
+impl Iterator for Members {
+    type Item = u8;
+
+    ghost next_gives = { λ s r t. TakesLowest (member s.left) r (member t.left) };
+
+    ghost remaining = { λ s. at_most (tally (member s.left) 256) };
+
+    fn next(&mut self) -> Option<u8> {
+        self.left.pop_first()
+    }
+}
+
+impl IntoIterator for MemberSet {
+    type Item = u8;
+
+    type IntoIter = Members;
+
+    ghost into_iter_gives = { λ set members. members.left ≡ set };
+
+    fn into_iter(self) -> Members {
+        Members { left: self }
     }
 }
 

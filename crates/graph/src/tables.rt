@@ -32,9 +32,7 @@ impl Neighbours {
     pub(crate) fn join_all(&mut self, set: MemberSet)
         ensures { (a b : ℕ) → stored self.new a b ≡ with_all (member set) (stored self.old) a b }
     {
-        let mut left = set;
-        while let Some(a) = left.lowest() {
-            left.remove(a);
+        for a in set {
             let mut others = set;
             others.remove(a);
             self.of[a as usize] = self.of[a as usize].union(others);

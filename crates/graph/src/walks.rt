@@ -15,8 +15,7 @@ pub fn part<G: Graph>(graph: &G, selected: MemberSet, start: u8) -> MemberSet
     frontier.insert(start);
     frontier = frontier.intersection(selected);
     let mut rest = selected.difference(frontier);
-    while let Some(x) = frontier.lowest() {
-        frontier.remove(x);
+    while let Some(x) = frontier.pop_first() {
         let fresh = graph.neighbours(x).intersection(rest);
         rest = rest.difference(fresh);
         frontier = frontier.union(fresh);
