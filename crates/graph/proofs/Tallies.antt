@@ -1,6 +1,7 @@
 -- How many numbers pass a test. Assumes nothing.
-use Rattle.std.proofs.Common.{◌≡◌, ℕ, zero, suc, ◌+◌, ◌*◌, ◌/◌, ◌%◌, ◌^◌, ◌<◌, ◌≤◌, Bool, true, false, cond, not, ◌&&◌, eqb, List, get_or, Some, sym, refl, ap, ◌∙◌, ⊎_elim, pow-suc, arith}
+use Rattle.std.proofs.Common.{◌≡◌, ℕ, zero, suc, ◌+◌, ◌*◌, ◌/◌, ◌%◌, ◌^◌, ◌<◌, ◌≤◌, Bool, true, false, cond, not, ◌&&◌, eqb, List, [], ◌∷◌, length, get_or, Some, sym, refl, ap, ◌∙◌, ⊎_elim, pow-suc, arith}
 use lib.Count.{ones, ones_step}
+use Rattle.std.specs.List.{sum_by}
 use Rattle.std.proofs.lemmas.Bool.{cases_eq, lt-ltb, cond_both, and_parts, and_right, not_from_true, eq-eqb}
 use Rattle.graph.specs.declared.sets.MemberSet.{MemberSet}
 use Rattle.graph.specs.Members.{bit, member, tally, TakesLowest}
@@ -98,23 +99,28 @@ in_word words i j k e row l =
     rw (lt-ltb k 256 (omega arith)) (ap (λ r. has_bit (get_or words r 0) (k % 64)) q ∙ ap (has_bit (get_or words i 0)) m)
 
 -- four words have as many numbers as set bits
-pub tally_words : (words : List ℕ) → ((i : ℕ) → i < 4 → get_or words i 0 < 2 ^ 64) →
-    tally (in_set words) 256 ≡ ones (get_or words 0 0) + ones (get_or words 1 0) + ones (get_or words 2 0) + ones (get_or words 3 0)
-tally_words words small =
+pub tally_words : (words : List ℕ) → length words ≡ 4 → ((i : ℕ) → i < 4 → get_or words i 0 < 2 ^ 64) → sum_by ones words ≡ tally (in_set words) 256
+tally_words [] long small = omega arith
+tally_words (a ∷ []) long small = omega arith
+tally_words (a ∷ b ∷ []) long small = omega arith
+tally_words (a ∷ b ∷ c ∷ []) long small = omega arith
+tally_words (a ∷ b ∷ c ∷ d ∷ []) long small =
+    let words : List ℕ = a ∷ b ∷ c ∷ d ∷ [] in
     let f : ℕ → Bool = in_set words in
-    let a = word (λ j. j) 0 (omega arith) (λ j. omega arith) in
-    let b = word (λ j. j + 64) 1 (omega arith) (λ j. omega arith) in
-    let c = word (λ j. j + 64 + 64) 2 (omega arith) (λ j. omega arith) in
-    let d = word (λ j. j + 64 + 64 + 64) 3 (omega arith) (λ j. omega arith) in
+    let s = word (λ j. j) 0 (omega arith) (λ j. omega arith) in
+    let t = word (λ j. j + 64) 1 (omega arith) (λ j. omega arith) in
+    let u = word (λ j. j + 64 + 64) 2 (omega arith) (λ j. omega arith) in
+    let v = word (λ j. j + 64 + 64 + 64) 3 (omega arith) (λ j. omega arith) in
     let p = tally_split f 64 192 in
     let q = tally_split (λ j. f (j + 64)) 64 128 in
     let r = tally_split (λ j. f (j + 64 + 64)) 64 64 in
     omega arith
   where
-    word : (place : ℕ → ℕ) (i : ℕ) → i < 4 → ((j : ℕ) → place j ≡ j + 64 * i) → tally (λ j. in_set words (place j)) 64 ≡ ones (get_or words i 0)
+    word : (place : ℕ → ℕ) (i : ℕ) → i < 4 → ((j : ℕ) → place j ≡ j + 64 * i) → tally (λ j. in_set (a ∷ b ∷ c ∷ d ∷ []) (place j)) 64 ≡ ones (get_or (a ∷ b ∷ c ∷ d ∷ []) i 0)
     word place i row e =
-        tally_same (λ j. in_set words (place j)) (has_bit (get_or words i 0)) 64 (λ j l. in_word words i j (place j) (e j) row l)
-        ∙ tally_ones 64 (get_or words i 0) (small i row)
+        tally_same (λ j. in_set (a ∷ b ∷ c ∷ d ∷ []) (place j)) (has_bit (get_or (a ∷ b ∷ c ∷ d ∷ []) i 0)) 64 (λ j l. in_word (a ∷ b ∷ c ∷ d ∷ []) i j (place j) (e j) row l)
+        ∙ tally_ones 64 (get_or (a ∷ b ∷ c ∷ d ∷ []) i 0) (small i row)
+tally_words (a ∷ b ∷ c ∷ d ∷ e ∷ more) long small = absurd (omega arith)
 
 -- a member set that loses one of its numbers is smaller
 pub tally_removed : (f g : ℕ → Bool) (x : ℕ) → x < 256 → f x ≡ true → ((k : ℕ) → g k ≡ (f k && not (eqb k x))) → tally g 256 < tally f 256

@@ -1,6 +1,5 @@
-use Rattle.std.proofs.Common.{sym, ◌∙◌, rules}
+use Rattle.std.proofs.Common.{sym, ◌∙◌}
 use Rattle.std.proofs.lemmas.Bool.{and_parts, and_from, ne_eqb, not_from_false, both_ways}
-use Rattle.graph.specs.Members.{member}
 use Rattle.graph.proofs.Searching.{untried_more, untried_none, chain_reversed}
 use Rattle.graph.proofs.Tallies.{taken_less}
 use Rattle.graph.proofs.chains.chain.Goals as goal
