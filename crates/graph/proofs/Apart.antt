@@ -73,15 +73,13 @@ module _ {size : ℕ} {joined : ℕ → ℕ → Bool} (G : IsGraph size joined) 
 
 -- in the complement: members of different parts are joined in the graph
 pub falls_coapart : {size : ℕ} {joined : ℕ → ℕ → Bool} → IsGraph size joined → {set : ℕ → Bool} {count : ℕ} {part : ℕ → ℕ → Bool} →
-    ListsParts (complement size joined) set count part → ((x : ℕ) → set x ≡ true → x < size) → 2 ≤ count → FallsCoapart size joined set count part
-falls_coapart {size} {joined} G L among many =
-    let H = complement_graph G in
-    let F = falls_apart H L among many in
+    ((x : ℕ) → set x ≡ true → x < size) → FallsApart (complement size joined) set count part → FallsCoapart size joined set count part
+falls_coapart {size} {joined} G among F =
     record {
       apart = F;
       joined_across = λ i j x y li lj n px py. elim (cases_Bool (joined x y)) [
         | inl t ↦ t
         | inr f ↦ absurd (both_ways _ (F.across i j x y li lj n px py)
-            (co_from size joined x y (among x (F.among i x li px)) (among y (F.among j y lj py)) (λ e. n (once H L i j y li lj (rw e at px) py)) f))
+            (co_from size joined x y (among x (F.among i x li px)) (among y (F.among j y lj py)) (λ e. n (F.once i j y li lj (rw e at px) py)) f))
       ];
     }

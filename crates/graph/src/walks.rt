@@ -1,4 +1,6 @@
 //! Connected parts of a selected set: the part of one number, and all parts in order.
+ghost use Rattle.std.specs.Prelude.{length};
+ghost use Rattle.lists.specs.Items.{items_of};
 ghost use Rattle.graph.specs.Members.{member};
 ghost use Rattle.graph.specs.Listed.{part_in};
 ghost use Rattle.graph.specs.Splitting.{PartOf, ListsParts};
@@ -6,6 +8,7 @@ ghost use Rattle.graph.specs.Splitting.{PartOf, ListsParts};
 use crate::answers::Parts;
 use crate::graphs::Graph;
 use crate::sets::MemberSet;
+use lists::FixedList;
 
 /// The connected part of `start` within the selected set: empty where `start` is not selected.
 pub fn part<G: Graph>(graph: &G, selected: MemberSet, start: u8) -> MemberSet
@@ -25,16 +28,14 @@ pub fn part<G: Graph>(graph: &G, selected: MemberSet, start: u8) -> MemberSet
 
 /// All connected parts of the selected set, each once, in the order of their lowest numbers.
 pub fn parts<G: Graph>(graph: &G, selected: MemberSet) -> Parts
-    ensures { ListsParts (G.Graph.joins graph.now) (member selected) result.count (part_in result) }
+    ensures { ListsParts (G.Graph.joins graph.now) (member selected) (length (items_of result)) (part_in (items_of result)) }
 {
-    let mut sets = [MemberSet::empty(); 256];
-    let mut count = 0;
+    let mut sets = FixedList::new(MemberSet::empty());
     let mut left = selected;
     while let Some(x) = left.lowest() {
         let found = part(graph, left, x);
         left = left.difference(found);
-        sets[count] = found;
-        count += 1;
+        sets.push(found);
     }
-    Parts { sets, count }
+    sets
 }
