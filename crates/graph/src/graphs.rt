@@ -14,9 +14,6 @@ pub trait Graph {
     // whether two numbers are joined
     ghost joins: { Self → ℕ → ℕ → Bool };
 
-    // joined goes both ways, joins nothing to itself, and joins only members
-    ghost laws: { (g : Self) → IsGraph (members g) (joins g) };
-
     /// How many members there are.
     fn size(&self) -> usize
         ensures { result ≡ members self.now };
@@ -34,6 +31,9 @@ pub trait Graph {
     /// The members that are joined to `a`.
     fn neighbours(&self, a: u8) -> MemberSet
         ensures { (k : ℕ) → member result k ≡ joins self.now a k };
+
+    // joined goes both ways, joins nothing to itself, and joins only members
+    ghost laws: { (g : Self) → IsGraph (members g) (joins g) };
 }
 
 /// The complement of a graph: it joins two different members that the graph leaves unjoined.

@@ -18,7 +18,7 @@ chain_about-requires g c = record {
 
 pub loop-b-preserved : goal.loop-b-preserved
 loop-b-preserved g c =
-    let G = g.G.Graph.laws c.args.graph.now in
+    let G = g.met.G.Graph.laws c.args.graph.now in
     let b = c.in-Some.b in
     untried_more _ b c.in-Some.ensures.1
     (λ h. let x = h.1.0 in

@@ -20,14 +20,14 @@ returns-in-Some-lowest g c =
     let d = c.in-Some-lowest.d in
     let p = and_parts _ _ (sym (c.difference-in-loop-a.ensures d) ∙ c.in-Some-lowest.ensures.0) in
     let fits = ap (λ s. member s a) (sym c.into_iter-a-iterator.ensures.into_iter_gives) ∙ c.loop-a.invariant.fits a c.in-Some.ensures.steps.0.0 in
-    chain_made (g.G.Graph.laws c.args.graph.now) c.requires.has_b c.requires.has_c c.requires.joined
+    chain_made (g.met.G.Graph.laws c.args.graph.now) c.requires.has_b c.requires.has_c c.requires.joined
     (end_fits c.neighbours-near_b.ensures c.neighbours-near_c.ensures c.difference-2.ensures c.intersection-first.ensures a fits)
     (end_fits c.neighbours-near_c.ensures c.neighbours-near_b.ensures c.difference.ensures c.intersection-last.ensures d p.0)
     (sym (c.neighbours.ensures d) ∙ not-true _ p.1)
 
 pub returns : goal.returns
 returns g c a d h =
-    let G = g.G.Graph.laws c.args.graph.now in
+    let G = g.met.G.Graph.laws c.args.graph.now in
     untried_none c.in-None.ensures.steps.0 c.loop-a.invariant a (
       ap (λ s. member s a) c.into_iter-a-iterator.ensures.into_iter_gives ∙ end_has c.neighbours-near_b.ensures c.neighbours-near_c.ensures c.difference-2.ensures c.intersection-first.ensures a (chain_first G h),
       (d, end_has c.neighbours-near_c.ensures c.neighbours-near_b.ensures c.difference.ensures c.intersection-last.ensures d (chain_last G h), h.chain.ad),

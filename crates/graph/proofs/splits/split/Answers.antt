@@ -12,5 +12,5 @@ pub returns : goal.returns
 returns g c = record {
   answer = members_answer c.args.selected (member c.below.result) (member c.intersection.result) c.size.result c.size.ensures
       c.below.ensures c.intersection.ensures _ c.split_members.result c.split_members.ensures;
-  theorem = splits_iff_no_chain (g.G.Graph.laws c.args.graph.now);
+  theorem = splits_iff_no_chain (g.met.G.Graph.laws c.args.graph.now);
 }

@@ -22,7 +22,7 @@ loop-x-preserved g c =
     let sets = items_of c.loop-x.sets in
     let found = c.part-found.result in
     rw (c.push.ensures.items, length-append sets (found ∷ [])) (listing_more c.in-Some.x (member found) (member c.difference-left.result)
-    (search rules) c.in-Some.ensures c.part-found.ensures c.difference-left.ensures (g.G.Graph.laws c.args.graph.now) _
+    (search rules) c.in-Some.ensures c.part-found.ensures c.difference-left.ensures (g.met.G.Graph.laws c.args.graph.now) _
     (ap member (get_or-append_seam sets found [] nothing)) (λ i l. ap member (get_or-append sets (found ∷ []) nothing i l)) c.loop-x.invariant)
 
 pub returns : goal.returns

@@ -11,5 +11,5 @@ returns g c k =
     let others = c.remove.ensures k in
     let joined = c.neighbours.ensures k in
     let left = c.difference.ensures k in
-    let is = co_neighbours (g.G.Graph.laws c.args.self.now.of.now) c.args.a k (search rules) in
+    let is = co_neighbours (g.met.G.Graph.laws c.args.self.now.of.now) c.args.a k (search rules) in
     cc
