@@ -9,20 +9,11 @@ use Rattle.graph.specs.Finding.{FindsChain}
 use Rattle.graph.specs.Graphs.{IsGraph, complement, members_in}
 use Rattle.graph.specs.Members.{member}
 use Rattle.graph.specs.Splitting.{AtMostOne, Connected}
-use Rattle.graph.proofs.Joining.{of_size}
 use Rattle.graph.proofs.Theorem.{stuck}
 
--- the set that is split has just the selected members
-module _ {size : ℕ} (selected : MemberSet) (below both : ℕ → Bool) (n : ℕ) (e : n ≡ size)
-    (is_below : (k : ℕ) → below k ≡ (ltb k 256 && ltb k n)) (is_both : (k : ℕ) → both k ≡ (member selected k && below k)) where
-  same : (k : ℕ) → both k ≡ members_in size (member selected) k
-  same k = of_size selected below both size k (is_below k ∙ ap (λ m. ltb k 256 && ltb k m) e) (is_both k)
-
-  pub members_only : (x : ℕ) → both x ≡ true → x < size
-  members_only x m = ltb-true x size (and_parts (member selected x) _ (sym (same x) ∙ m)).1
-
-  pub members_answer : (joined : ℕ → ℕ → Bool) (r : Split) → Splits size joined both r → Splits size joined (members_in size (member selected)) r
-  members_answer joined r says = subst (λ set. Splits size joined set r) (fun_ext same) says
+-- what is said of a set is said of one that has the same numbers
+pub same_answer : (size : ℕ) (joined : ℕ → ℕ → Bool) {f g : ℕ → Bool} → ((k : ℕ) → f k ≡ g k) → (r : Split) → Splits size joined f r → Splits size joined g r
+same_answer size joined same r says = subst (λ set. Splits size joined set r) (fun_ext same) says
 
 module _ {set : ℕ → Bool} (first : ℕ) (others : ℕ → Bool) (has : set first ≡ true) (is : (k : ℕ) → others k ≡ (set k && not (eqb k first))) where
   -- nothing besides the first

@@ -1,6 +1,6 @@
 -- A table of neighbours, and joining all of a set. Assumes nothing.
-use Rattle.std.proofs.Common.{◌≡◌, ℕ, zero, suc, ◌<◌, Bool, true, false, not, ◌&&◌, ◌||◌, eqb, ltb, ◌≢◌, ◌⊎◌, [], get_or, replicate, sym, refl, ap, ◌∙◌, inl, inr, ⊎_elim}
-use Rattle.std.proofs.lemmas.Bool.{and_parts, and_from, and_right, or_cases, or_left, or_right, eqb-false, ne_eqb, eq-eqb, lt-ltb, cases_eq, not-true, not_from_false, both_ways}
+use Rattle.std.proofs.Common.{◌≡◌, ℕ, zero, suc, ◌<◌, ◌≤◌, Bool, true, false, not, ◌&&◌, ◌||◌, eqb, ltb, ◌≢◌, ◌⊎◌, [], get_or, replicate, sym, refl, ap, ◌∙◌, inl, inr, ⊎_elim}
+use Rattle.std.proofs.lemmas.Bool.{and_parts, and_from, and_right, or_cases, or_left, or_right, eqb-false, ne_eqb, eq-eqb, lt-ltb, ltb-true, cases_eq, not-true, not_from_false, both_ways}
 use Rattle.graph.specs.declared.sets.MemberSet.{MemberSet}
 use Rattle.graph.specs.Members.{member, nothing}
 use Rattle.graph.specs.Graphs.{IsGraph, members_in}
@@ -15,7 +15,16 @@ empty_rows row none zero a b = none_in [] b (λ _. refl)
 empty_rows row none (suc n) zero b = none b
 empty_rows row none (suc n) (suc a) b = empty_rows row none n a b
 
--- what with-pairs adds
+-- a graph that joins nothing
+pub unjoined_graph : (size : ℕ) (joined : ℕ → ℕ → Bool) → size ≤ 256 → ((a b : ℕ) → joined a b ≡ false) → IsGraph size joined
+unjoined_graph size joined few none = record {
+  few = few;
+  symmetric = λ a b. none a b ∙ sym (none b a);
+  irreflexive = λ a. none a a;
+  within = λ a b j. absurd (both_ways _ (none a b) j);
+}
+
+-- what with_pairs adds
 pub pairs_cases : (first second : ℕ → Bool) (joined : ℕ → ℕ → Bool) (a b : ℕ) → with_pairs first second joined a b ≡ true →
     (joined a b ≡ true) ⊎ ((first a ≡ true) × (second b ≡ true) × (a ≢ b))
 unfolding with_pairs
@@ -105,11 +114,15 @@ joined_graph {size} {joined} set after G among is = record {
         (λ k. pairs_new set set joined b a k.1 k.0 (λ e. k.2 (sym e))) (pairs_cases set set joined a b j)
 
 -- the members among a set's numbers
-pub of_size : (set : MemberSet) (below both : ℕ → Bool) (size k : ℕ) → below k ≡ (ltb k 256 && ltb k size) → both k ≡ (member set k && below k) →
-    both k ≡ members_in size (member set) k
-of_size set below both size k is_below is_both = is_both ∙ same_truth _ _
-    (λ t. let p = and_parts _ _ t in and_from _ _ p.0 (and_parts _ _ (sym is_below ∙ p.1)).1)
-    (λ t. let p = and_parts _ _ t in and_from _ _ p.0 (is_below ∙ and_from _ _ (lt-ltb k 256 (member_small set k p.0)) p.1))
+module _ {size : ℕ} (set : MemberSet) (below both : ℕ → Bool) (n : ℕ) (e : n ≡ size)
+    (is_below : (k : ℕ) → below k ≡ (ltb k 256 && ltb k n)) (is_both : (k : ℕ) → both k ≡ (member set k && below k)) where
+  pub members_same : (k : ℕ) → both k ≡ members_in size (member set) k
+  members_same k = is_both k ∙ same_truth _ _
+      (λ t. let p = and_parts _ _ t in and_from _ _ p.0 (let q = and_parts (ltb k 256) _ (sym (is_below k) ∙ p.1) in rw e at q.1))
+      (λ t. let p = and_parts _ _ t in and_from _ _ p.0 (is_below k ∙ and_from _ _ (lt-ltb k 256 (member_small set k p.0)) (rw e p.1)))
+
+  pub members_only : (x : ℕ) → both x ≡ true → x < size
+  members_only x m = ltb-true x size (and_parts (member set x) _ (sym (members_same x) ∙ m)).1
 
 pub with_all_same : (f g : ℕ → Bool) → ((k : ℕ) → f k ≡ g k) → (joined : ℕ → ℕ → Bool) (a b : ℕ) → with_all f joined a b ≡ with_all g joined a b
 unfolding with_pairs

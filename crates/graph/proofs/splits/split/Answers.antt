@@ -1,5 +1,6 @@
 use Rattle.graph.specs.Members.{member}
-use Rattle.graph.proofs.Deciding.{members_only, members_answer}
+use Rattle.graph.proofs.Deciding.{same_answer}
+use Rattle.graph.proofs.Joining.{members_same, members_only}
 use Rattle.graph.proofs.Theorem.{splits_iff_no_chain}
 use Rattle.graph.proofs.splits.split.Goals as goal
 
@@ -10,7 +11,7 @@ split_members-requires g c =
 
 pub returns : goal.returns
 returns g c = record {
-  answer = members_answer c.args.selected (member c.below.result) (member c.intersection.result) c.size.result c.size.ensures
-      c.below.ensures c.intersection.ensures _ c.split_members.result c.split_members.ensures;
+  answer = same_answer _ _ (members_same c.args.selected (member c.below.result) (member c.intersection.result) c.size.result c.size.ensures
+      c.below.ensures c.intersection.ensures) c.split_members.result c.split_members.ensures;
   theorem = splits_iff_no_chain (g.met.G.Graph.laws c.args.graph.now);
 }
