@@ -1,6 +1,7 @@
 //! Sets of the numbers 0 to 255, over four words.
 ghost use Rattle.std.specs.Prelude.{◌≡◌, ℕ, ◌<◌, ◌≤◌, false, not, ◌&&◌, ◌||◌, Decides, ◌==◌, count_ones, nat_lt, slice_index};
 ghost use Rattle.std.specs.Iterator.{at_most};
+ghost use Rattle.std.specs.List.{list_any};
 ghost use Rattle.graph.specs.Members.{bit, member, tally, Lowest, TakesLowest};
 
 use std::array;
@@ -113,6 +114,18 @@ impl MemberSet {
         ensures { result ≡ tally (member self) 256 }
     {
         self.words.iter().map(|word| word.count_ones()).sum::<u32>() as usize
+    }
+}
+
+impl<const N: usize> From<[u8; N]> for MemberSet {
+    ghost from_gives = { λ numbers set. (k : ℕ) → member set k ≡ list_any (λ x. k == x) numbers };
+
+    fn from(numbers: [u8; N]) -> MemberSet {
+        let mut set = MemberSet::empty();
+        for x in &numbers {
+            set.insert(*x);
+        }
+        set
     }
 }
 

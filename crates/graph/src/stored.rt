@@ -50,10 +50,7 @@ impl StoredGraph {
         ensures count { self.new.count ≡ self.old.count }
         ensures pairs { (x y : ℕ) → stored self.new.rows x y ≡ with_all (members_in self.old.count (λ k. (k == a) || k == b)) (stored self.old.rows) x y }
     {
-        let mut pair = MemberSet::empty();
-        pair.insert(a);
-        pair.insert(b);
-        self.join_all(pair);
+        self.join_all(MemberSet::from([a, b]));
     }
 }
 
