@@ -3,7 +3,7 @@ use Rattle.std.proofs.Common.{◌≡◌, ℕ, ◌<◌, ◌≤◌, Bool, true, fa
 use Rattle.std.proofs.lemmas.Bool.{cases_eq, cases_order, cases_Bool, both_ways}
 use Rattle.graph.specs.Answers.{FallsCoapart}
 use Rattle.graph.specs.Graphs.{IsGraph, complement}
-use Rattle.graph.specs.Laws.{untrue, co_from, complement_graph}
+use Rattle.graph.specs.Laws.{untrue, co_from}
 use Rattle.graph.specs.Members.{tally}
 use Rattle.graph.specs.Splitting.{Reaches, onward, Connected, ListsParts, FallsApart}
 use Rattle.graph.proofs.Paths.{reached_in, and_then, back}

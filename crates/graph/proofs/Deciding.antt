@@ -1,13 +1,11 @@
 -- The ways through one split. Assumes nothing.
-use Rattle.std.proofs.Common.{◌≡◌, ℕ, ◌<◌, Bool, true, false, not, ◌&&◌, eqb, ltb, List, is_some, Some, None, Option, sym, refl, ap, ◌∙◌, subst, ⊎_elim}
+use Rattle.std.proofs.Common.{◌≡◌, ℕ, ◌<◌, Bool, true, false, not, ◌&&◌, eqb, List, is_some, Some, None, Option, refl, ap, ◌∙◌, subst, ⊎_elim}
 use mathlib.Core.Path.{fun_ext}
-use Rattle.std.proofs.lemmas.Bool.{and_parts, and_from, and_right, ltb-true, eq-eqb, ne_eqb, cases_eq, cases_Bool, not_from_true, not_from_false, both_ways}
+use Rattle.std.proofs.lemmas.Bool.{and_from, and_right, eq-eqb, ne_eqb, cases_eq, cases_Bool, not_from_true, not_from_false, both_ways}
 use Rattle.graph.specs.declared.answers.Split.{Split}
-use Rattle.graph.specs.declared.sets.MemberSet.{MemberSet}
 use Rattle.graph.specs.Answers.{Splits, Only}
 use Rattle.graph.specs.Finding.{FindsChain}
-use Rattle.graph.specs.Graphs.{IsGraph, complement, members_in}
-use Rattle.graph.specs.Members.{member}
+use Rattle.graph.specs.Graphs.{IsGraph, complement}
 use Rattle.graph.specs.Splitting.{AtMostOne, Connected}
 use Rattle.graph.proofs.Theorem.{stuck}
 

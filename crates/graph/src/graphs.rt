@@ -37,7 +37,7 @@ pub trait Graph {
 }
 
 /// The complement of a graph: it joins two different members that the graph leaves unjoined.
-#[derive(Drop)]
+#[derive_where(Clone, Copy)]
 pub struct Complement<'a, G> {
     pub of: &'a G,
 }
@@ -65,7 +65,7 @@ impl<G: Graph> Graph for Complement<'_, G> {
 }
 
 /// A selection of a graph: it keeps all members, but joins only selected ones.
-#[derive(Drop)]
+#[derive_where(Clone, Copy)]
 pub struct Selection<'a, G> {
     pub graph: &'a G,
     pub selected: MemberSet,

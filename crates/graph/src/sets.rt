@@ -7,7 +7,7 @@ ghost use Rattle.graph.specs.Members.{bit, member, tally, Lowest, TakesLowest};
 use std::array;
 
 /// A set of the numbers 0 to 255: number k is bit k % 64 of word k / 64.
-#[derive(Clone, Copy)]
+#[derive(Clone, Copy, PartialEq, Eq, Debug)]
 pub struct MemberSet {
     words: [u64; 4],
 }
@@ -130,7 +130,7 @@ impl<const N: usize> From<[u8; N]> for MemberSet {
 }
 
 /// The numbers of a set, from the lowest on.
-#[derive(Clone, Copy)]
+#[derive(Clone, Copy, PartialEq, Eq, Debug)]
 pub struct Members {
     left: MemberSet,
 }

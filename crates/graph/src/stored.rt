@@ -7,7 +7,7 @@ use crate::graphs::Graph;
 use crate::sets::MemberSet;
 
 /// A graph by the stored neighbours of each member.
-#[derive(Clone, Copy)]
+#[derive(Clone, Copy, PartialEq, Eq, Debug)]
 pub struct StoredGraph {
     count: usize,
     rows: [MemberSet; 256],

@@ -44,14 +44,24 @@ fn splits(rt: HostRuntime) {
     let parts = path(6, &[0, 4, 2]);
     let cases = [
         (chain, MemberSet::from([]), Kind::Empty, Kind::Empty),
-        (chain, MemberSet::from([2, 255]), Kind::Single(2), Kind::Single(2)),
+        (
+            chain,
+            MemberSet::from([2, 255]),
+            Kind::Single(2),
+            Kind::Single(2),
+        ),
         (
             chain,
             MemberSet::from([0, 1, 2]),
             Kind::InComplement(2),
             Kind::InGraph(2),
         ),
-        (chain, MemberSet::from([0, 1, 2, 3]), Kind::Stuck, Kind::Stuck),
+        (
+            chain,
+            MemberSet::from([0, 1, 2, 3]),
+            Kind::Stuck,
+            Kind::Stuck,
+        ),
         (
             ring,
             MemberSet::from([0, 1, 2, 3]),

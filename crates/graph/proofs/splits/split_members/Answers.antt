@@ -1,7 +1,6 @@
-use Rattle.std.proofs.Common.{subst, rules}
+use Rattle.std.proofs.Common.{subst}
 use Rattle.std.proofs.lemmas.Bool.{both_ways}
 use Rattle.graph.specs.Finding.{FindsChain}
-use Rattle.graph.specs.Laws.{complement_graph}
 use Rattle.graph.specs.Members.{member}
 use Rattle.graph.proofs.Apart.{falls_coapart}
 use Rattle.graph.proofs.Deciding.{one_member, two_members, finds}

@@ -3,7 +3,7 @@ use Rattle.std.proofs.Math.ListN.{get_or-append}
 use Rattle.std.proofs.Math.Seq.{get_or-append_seam}
 use Rattle.lists.specs.Items.{items_of}
 use Rattle.graph.specs.Members.{member, nothing}
-use Rattle.graph.proofs.Walking.{Listing, listing_start, listing_more, listing_less, room_left, listing_end}
+use Rattle.graph.proofs.Walking.{listing_start, listing_more, listing_less, room_left, listing_end}
 use Rattle.graph.proofs.walks.parts.Goals as goal
 
 pub loop-x-init : goal.loop-x-init
