@@ -10,13 +10,3 @@ FormsChain joined set four = ChainIn joined set (slice_index four 0) (slice_inde
 abbrev pub FindsChain : (ℕ → ℕ → Bool) → (ℕ → Bool) → Option (List ℕ) → Type 0
 FindsChain joined set (Some four) = FormsChain joined set four
 FindsChain joined set None = NoChain joined set
-
--- of the inner loop: a chain of the set, or none where none has b as its second and one of those given as its third
-abbrev pub FindsAbout : (ℕ → ℕ → Bool) → (ℕ → Bool) → ℕ → (ℕ → Bool) → Option (List ℕ) → Type 0
-FindsAbout joined set b thirds (Some four) = FormsChain joined set four
-FindsAbout joined set b thirds None = (a c d : ℕ) → thirds c ≡ true → ChainIn joined set a b c d → ⊥
-
--- of the innermost loop: a chain of the set, or none where none has b and c in the middle
-abbrev pub FindsAround : (ℕ → ℕ → Bool) → (ℕ → Bool) → ℕ → ℕ → Option (List ℕ) → Type 0
-FindsAround joined set b c (Some four) = FormsChain joined set four
-FindsAround joined set b c None = (a d : ℕ) → ChainIn joined set a b c d → ⊥

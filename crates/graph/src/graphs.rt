@@ -22,10 +22,13 @@ pub trait Graph {
     fn joined(&self, a: usize, b: usize) -> bool
         ensures { result ≡ joins self.now a b }
     {
-        if a >= 256 || b >= 256 {
+        let Ok(near) = u8::try_from(a) else {
             return false;
-        }
-        self.neighbours(a as u8).contains(b as u8)
+        };
+        let Ok(far) = u8::try_from(b) else {
+            return false;
+        };
+        self.neighbours(near).contains(far)
     }
 
     /// The members that are joined to `a`.
