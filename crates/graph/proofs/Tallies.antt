@@ -4,8 +4,10 @@ use lib.Count.{ones, ones_step}
 use Rattle.std.specs.List.{sum_by}
 use Rattle.std.proofs.lemmas.Bool.{cases_eq, lt-ltb, cond_both, and_parts, and_right, not_from_true, eq-eqb}
 use Rattle.graph.specs.declared.sets.MemberSet.{MemberSet}
-use Rattle.graph.specs.Members.{bit, member, tally, TakesLowest}
-use Rattle.graph.proofs.Bits.{has_bit, in_set, bit_suc, member_small}
+use Rattle.graph.specs.Members.{member, tally, TakesLowest}
+use Rattle.std.specs.Int.{bit_at}
+use Rattle.std.proofs.lemmas.Nat.Bits.{bit_at-suc, bit_at-lt}
+use Rattle.graph.proofs.Bits.{has_bit, in_set, member_small}
 
 -- one where the test is true
 abbrev one_if : Bool → ℕ
@@ -81,9 +83,9 @@ tally_ones zero word h = let e : word ≡ 0 = omega arith in tally_nil (has_bit 
 tally_ones (suc k) word h =
     let r = tally_ones k (word / 2) (omega (arith, pow-suc 2 k)) in
     let first = tally_first (has_bit word) k in
-    let rest = tally_same (λ j. has_bit word (suc j)) (has_bit (word / 2)) k (λ j _. ap (λ n. eqb n 1) (bit_suc word j)) in
+    let rest = tally_same (λ j. has_bit word (suc j)) (has_bit (word / 2)) k (λ j _. ap (λ n. eqb n 1) (bit_at-suc word j)) in
     let step = ones_step word in
-    let low = low_digit (bit word 0) (omega arith) in
+    let low = low_digit (bit_at word 0) (bit_at-lt word 0) in
     omega arith
   where
     low_digit : (d : ℕ) → d < 2 → cond (eqb d 1) 1 0 ≡ d

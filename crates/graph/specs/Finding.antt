@@ -1,5 +1,5 @@
 -- What is answered where a chain is looked for: four numbers, in the chain's order, or none.
-use Rattle.std.specs.Prelude.{◌≡◌, ℕ, Bool, true, List, Some, None, Option, slice_index}
+use Rattle.std.specs.Prelude.{ℕ, Bool, List, Some, None, Option, slice_index}
 use Rattle.graph.specs.Graphs.{ChainIn, NoChain}
 
 -- the four form a chain, and are of the set

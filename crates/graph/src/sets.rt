@@ -1,8 +1,9 @@
 //! Sets of the numbers 0 to 255, over four words.
 ghost use Rattle.std.specs.Prelude.{◌≡◌, ℕ, ◌<◌, ◌≤◌, false, not, ◌&&◌, ◌||◌, Decides, ◌==◌, count_ones, nat_lt, slice_index};
+ghost use Rattle.std.specs.Int.{bit_at};
 ghost use Rattle.std.specs.Iterator.{at_most};
 ghost use Rattle.std.specs.List.{list_any};
-ghost use Rattle.graph.specs.Members.{bit, member, tally, Lowest, TakesLowest};
+ghost use Rattle.graph.specs.Members.{member, tally, Lowest, TakesLowest};
 
 use std::array;
 
@@ -161,7 +162,7 @@ impl IntoIterator for MemberSet {
 
 // A word with its lowest `n` bits set; with all of them, where `n` is 64 or more.
 fn low_bits(n: usize) -> u64
-    ensures { (j : ℕ) → j < 64 → (bit result j == 1) ≡ nat_lt j n }
+    ensures { (j : ℕ) → j < 64 → (bit_at result j == 1) ≡ nat_lt j n }
 {
     if n < 64 { (1 << n) - 1 } else { u64::MAX }
 }
