@@ -5,9 +5,6 @@ use Rattle.graph.proofs.Searching.{untried_more, untried_none, end_fits, end_has
 use Rattle.graph.proofs.Tallies.{taken_less}
 use Rattle.graph.proofs.chains.chain.Goals as goal
 
-pub loop-b-init : goal.loop-b-init
-loop-b-init g c = record { fits = λ x m. m; hope = λ x h. h.1.1.1.has_b }
-
 pub loop-b-smaller : goal.loop-b-smaller
 loop-b-smaller g c = taken_less _ _ _ c.in-Some.ensures
 
@@ -27,9 +24,6 @@ loop-b-preserved g c =
     ))
     c.loop-b.invariant
 
-pub loop-c-init : goal.loop-c-init
-loop-c-init g c = record { fits = λ x m. m; hope = λ x h. h.0 }
-
 -- no chain has b and c in the middle
 pub loop-c-preserved : goal.loop-c-preserved
 loop-c-preserved g c =
@@ -44,16 +38,6 @@ loop-c-preserved g c =
       (d, end_has c.neighbours-near_c.ensures c.neighbours-near_b.ensures c.difference.ensures c.intersection-last.ensures d (chain_last G chain), chain.chain.ad),
     ))
     c.loop-c.invariant
-
-pub loop-a-init : goal.loop-a-init
-loop-a-init g c = record { fits = λ x m. m; hope = λ x h. h.0 }
-
-pub loop-a-preserved : goal.loop-a-preserved
-loop-a-preserved g c =
-    untried_more _ c.in-Some-a.a c.in-Some-a.ensures.steps.1
-    (λ h. both_ways _ (c.in_default-lowest.ensures h.1.0)
-    (c.difference-in-loop-a.ensures h.1.0 ∙ and_from _ _ h.1.1 (not_from_false _ (c.neighbours.ensures h.1.0 ∙ h.1.2))))
-    c.loop-a.invariant
 
 pub returns-in-Some-lowest : goal.returns-in-Some-lowest
 returns-in-Some-lowest g c =
@@ -71,6 +55,3 @@ returns-in-Some-lowest g c =
     (end_fits c.neighbours-near_b.ensures c.neighbours-near_c.ensures c.difference-in-loop-c.ensures c.intersection-a-items.ensures a first)
     (end_fits c.neighbours-near_c.ensures c.neighbours-near_b.ensures c.difference.ensures c.intersection-last.ensures d q.0)
     (sym (c.neighbours.ensures d) ∙ not-true _ q.1)
-
-pub returns : goal.returns
-returns g c a b x d h = untried_none c.in_default.ensures.0 c.loop-b.invariant b (a, (x, (d, h)))

@@ -1,13 +1,8 @@
 use Rattle.graph.specs.Members.{member}
 use Rattle.graph.proofs.Deciding.{same_answer}
-use Rattle.graph.proofs.Joining.{members_same, members_only}
+use Rattle.graph.proofs.Joining.{members_same}
 use Rattle.graph.proofs.Theorem.{splits_iff_no_chain}
 use Rattle.graph.proofs.splits.split.Goals as goal
-
-pub split_members-requires : goal.split_members-requires
-split_members-requires g c =
-    members_only c.args.selected (member c.below.result) (member c.intersection.result) c.size.result c.size.ensures
-    c.below.ensures c.intersection.ensures
 
 pub returns : goal.returns
 returns g c = record {

@@ -3,7 +3,7 @@ use Rattle.std.proofs.Math.ListN.{get_or-append}
 use Rattle.std.proofs.Math.Seq.{get_or-append_seam}
 use Rattle.lists.specs.Items.{items_of}
 use Rattle.graph.specs.Members.{member, nothing}
-use Rattle.graph.proofs.Walking.{listing_start, listing_more, listing_less, room_left, listing_end}
+use Rattle.graph.proofs.Walking.{listing_start, listing_more, listing_less, room_left}
 use Rattle.graph.proofs.walks.parts.Goals as goal
 
 pub loop-x-init : goal.loop-x-init
@@ -24,6 +24,3 @@ loop-x-preserved g c =
     rw (c.push.ensures.items, length-append sets (found ∷ [])) (listing_more c.in-Some.x (member found) (member c.difference-left.result)
     (search rules) c.in-Some.ensures c.part-found.ensures c.difference-left.ensures (g.met.G.Graph.laws c.args.graph.now) _
     (ap member (get_or-append_seam sets found [] nothing)) (λ i l. ap member (get_or-append sets (found ∷ []) nothing i l)) c.loop-x.invariant)
-
-pub returns : goal.returns
-returns g c = listing_end c.in_default.ensures c.loop-x.invariant

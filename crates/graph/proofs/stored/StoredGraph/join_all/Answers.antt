@@ -1,8 +1,7 @@
-use Rattle.std.proofs.Common.{ap, ◌∙◌, get_or-set_other, get_or-set_same, rules}
-use Rattle.graph.specs.Graphs.{members_in}
+use Rattle.std.proofs.Common.{ap, get_or-set_other, get_or-set_same, rules}
 use Rattle.graph.specs.Members.{member, nothing}
 use Rattle.graph.specs.Stored.{stored}
-use Rattle.graph.proofs.Joining.{joining_start, joining_more, joining_end, joined_graph, members_same, members_only, with_all_same}
+use Rattle.graph.proofs.Joining.{joining_start, joining_more, joining_end, joined_graph, members_only}
 use Rattle.graph.proofs.stored.StoredGraph.join_all.Goals as goal
 
 pub loop-a-init : goal.loop-a-init
@@ -28,9 +27,3 @@ invariant_of-self c = record {
       (members_only c.args.set (member c.below.result) (member c.intersection-all.result) c.size.result c.size.ensures c.below.ensures c.intersection-all.ensures)
       (joining_end c.in-None.ensures.steps.0 c.loop-a.invariant.joining);
 }
-
-pub returns-clause-pairs : goal.returns-clause-pairs
-returns-clause-pairs c a b =
-    joining_end c.in-None.ensures.steps.0 c.loop-a.invariant.joining a b
-    ∙ with_all_same (member c.intersection-all.result) (members_in c.args.self.now.count (member c.args.set))
-    (members_same c.args.set (member c.below.result) (member c.intersection-all.result) c.size.result c.size.ensures c.below.ensures c.intersection-all.ensures) (stored c.args.self.now.rows) a b
