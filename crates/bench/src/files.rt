@@ -31,6 +31,7 @@ fn read(file: &[u8]) -> (usize, u64) {
 }
 
 // The shortest of 20 measures, in nanoseconds, of reading the file and of copying it; and what the copies hold, so that no copy is left out.
+#[derive(Clone, Copy)]
 struct Times {
     reading: u128,
     copying: u128,

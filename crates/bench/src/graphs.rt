@@ -1,4 +1,6 @@
 //! Connected parts, splits and chains, on graphs of 64, 128 and 256 members.
+ghost use Rattle.std.specs.Prelude.{◌≡◌};
+
 use crate::{timed, yes_or_no};
 use graph::answers::Split;
 use graph::chains::chain;
@@ -24,6 +26,7 @@ fn graph_of<J: Fn(u8, u8) -> bool>(size: usize, joins: &J) -> StoredGraph
 }
 
 // Work on a selected set, measured on graphs of more and more members. A number comes of it.
+#[derive(Clone, Copy)]
 struct Trial<J, W> {
     name: &'static str,
     // which members are joined
@@ -36,6 +39,19 @@ struct Trial<J, W> {
 }
 
 impl<J: Fn(u8, u8) -> bool, W: Fn(&StoredGraph, MemberSet) -> usize> Trial<J, W> {
+    fn new(name: &'static str, joins: J, work: W) -> Trial<J, W>
+        ensures joins { result.joins ≡ joins }
+        ensures work { result.work ≡ work }
+    {
+        Trial {
+            name,
+            joins,
+            work,
+            rounds: 64,
+            most: 16,
+        }
+    }
+
     // The shortest of five measures, in nanoseconds for one round, at least 1; and the sum of all answers, so that no work is left out.
     fn measure(
         &self,
@@ -141,60 +157,21 @@ fn count_chain(graph: &StoredGraph, selected: MemberSet) -> usize {
 }
 
 pub(crate) fn run(rt: &HostRuntime) -> io::Result<()> {
-    Trial {
-        name: "parts of a sparse graph",
-        joins: sparse,
-        work: count_parts,
-        rounds: 64,
-        most: 16,
-    }
+    Trial::new("parts of a sparse graph", sparse, count_parts).run(rt)?;
+    Trial::new("parts of a dense graph", dense, count_parts).run(rt)?;
+    Trial::new("split of a sparse graph", sparse, count_split).run(rt)?;
+    Trial::new("split of a dense graph", dense, count_split).run(rt)?;
+    Trial::new(
+        "split of a graph that is connected both ways",
+        half,
+        count_split,
+    )
     .run(rt)?;
+    Trial::new("chain found", half, count_chain).run(rt)?;
     Trial {
-        name: "parts of a dense graph",
-        joins: dense,
-        work: count_parts,
-        rounds: 64,
-        most: 16,
-    }
-    .run(rt)?;
-    Trial {
-        name: "split of a sparse graph",
-        joins: sparse,
-        work: count_split,
-        rounds: 64,
-        most: 16,
-    }
-    .run(rt)?;
-    Trial {
-        name: "split of a dense graph",
-        joins: dense,
-        work: count_split,
-        rounds: 64,
-        most: 16,
-    }
-    .run(rt)?;
-    Trial {
-        name: "split of a graph that is connected both ways",
-        joins: half,
-        work: count_split,
-        rounds: 64,
-        most: 16,
-    }
-    .run(rt)?;
-    Trial {
-        name: "chain found",
-        joins: half,
-        work: count_chain,
-        rounds: 64,
-        most: 16,
-    }
-    .run(rt)?;
-    Trial {
-        name: "chain excluded",
-        joins: sides,
-        work: count_chain,
         rounds: 2,
         most: 32,
+        ..Trial::new("chain excluded", sides, count_chain)
     }
     .run(rt)
 }

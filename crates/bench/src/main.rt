@@ -1,8 +1,6 @@
 //! How long the work of this repository takes. What was worked out goes to standard output, the times to standard error.
 #![tactic(auto)]
 
-ghost use Rattle.std.specs.Prelude.{◌≡◌};
-
 mod files;
 mod graphs;
 
@@ -15,7 +13,7 @@ fn main(rt: HostRuntime) -> io::Result<()> {
 }
 
 // How long the work took, in nanoseconds, and what came of it.
-fn timed<T, F: FnOnce() -> T>(rt: &HostRuntime, work: F) -> io::Result<(u128, T)>
+fn timed<T: Drop, F: FnOnce() -> T>(rt: &HostRuntime, work: F) -> io::Result<(u128, T)>
     requires { F.IsAlwaysCallable work }
 {
     let start = Instant::now(rt)?;
