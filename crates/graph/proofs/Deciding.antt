@@ -1,6 +1,7 @@
 -- The ways through one split. Assumes nothing.
-use Rattle.std.proofs.Common.{◌≡◌, ℕ, ◌<◌, Bool, true, false, not, ◌&&◌, eqb, List, is_some, Some, None, Option, refl, ap, ◌∙◌, subst, ⊎_elim}
+use Rattle.std.proofs.Common.{arith, ◌≡◌, ℕ, ◌<◌, Bool, true, false, not, ◌&&◌, eqb, List, is_some, Some, None, Option, refl, ap, ◌∙◌, subst, ⊎_elim}
 use mathlib.Core.Path.{fun_ext}
+use Rattle.std.proofs.lemmas.Bool.Decides.{nat_tests}
 use Rattle.std.proofs.lemmas.Bool.{and_from, and_right, eq-eqb, ne_eqb, cases_eq, cases_Bool, not_from_true, not_from_false, both_ways}
 use Rattle.graph.specs.declared.answers.Split.{Split}
 use Rattle.graph.specs.Answers.{Splits, Only}
@@ -16,15 +17,11 @@ same_answer size joined same r says = subst (λ set. Splits size joined set r) (
 module _ {set : ℕ → Bool} (first : ℕ) (others : ℕ → Bool) (has : set first ≡ true) (is : (k : ℕ) → others k ≡ (set k && not (eqb k first))) where
   -- nothing besides the first
   pub one_member : ((k : ℕ) → others k ≡ false) → Only set first
-  one_member none = record {
-    has = has;
-    no_other = λ y m. ⊎_elim (λ e. e) (λ n. absurd (both_ways _ (none y) (is y ∙ and_from _ _ m (not_from_false _ (ne_eqb y first n))))) (cases_eq y first);
-  }
+  one_member none = record { has = has; no_other = λ y m. let gone = none y in grind (arith, nat_tests, is) }
 
   -- something besides the first
   pub two_members : (((k : ℕ) → others k ≡ false) → ⊥) → ¬ AtMostOne set
-  two_members some one = some (λ k. is k ∙ ⊎_elim
-      (λ m. and_right (set k) _ (not_from_true _ (eq-eqb k first (one k first m has)))) (λ f. ap (λ t. t && not (eqb k first)) f) (cases_Bool (set k)))
+  two_members some one = some (λ k. let same = one k first in grind (arith, nat_tests, is))
 
 -- the search does not fail where the set does not fall apart
 pub finds : {size : ℕ} {joined : ℕ → ℕ → Bool} {set : ℕ → Bool} → IsGraph size joined → ((x : ℕ) → set x ≡ true → x < size) → ¬ AtMostOne set →
