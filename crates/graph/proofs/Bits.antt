@@ -48,7 +48,7 @@ word_low n j = elim (cases_lt j n) [
 ]
 
 eqb_same : (a b c d : ℕ) → (a ≡ b → c ≡ d) → (c ≡ d → a ≡ b) → eqb a b ≡ eqb c d
-eqb_same a b c d f g = ⊎_elim (λ e. eq-eqb a b e ∙ sym (eq-eqb c d (f e))) (λ ne. ne_eqb a b ne ∙ sym (ne_eqb c d (λ e. ne (g e)))) (cases_eq a b)
+eqb_same a b c d f g = grind (arith, nat_tests)
 
 -- what the words have, as far as the numbers below 256 go
 abbrev pub in_set : List ℕ → ℕ → Bool
@@ -82,12 +82,10 @@ changed op keeps words k j word small h at = elim (cases_Bool (ltb j 256)) [
         (cases_eq (j / 64) (k / 64))
 
 pub or_keeps : (x : Bool) → (x || false) ≡ x
-or_keeps true = refl
-or_keeps false = refl
+or_keeps x = grind arith
 
 pub without_keeps : (x : Bool) → (x && not false) ≡ x
-without_keeps true = refl
-without_keeps false = refl
+without_keeps x = grind arith
 
 -- what holds of four places
 pub four : (P : ℕ → Type 0) → P 0 → P 1 → P 2 → P 3 → (q : ℕ) → q < 4 → P q
@@ -104,10 +102,7 @@ below_end words end k at = within (λ x _. x) refl k (in_words words k) (ltb k e
     (λ h. at (k / 64) (omega arith) (k % 64) (omega arith) ∙ carried (k % 64) (k / 64) k (omega arith))
   where
     carried : (j q n : ℕ) → n ≡ j + 64 * q → ltb j (end - 64 * q) ≡ ltb n end
-    carried j q n e = elim (cases_lt n end) [
-      | inl l ↦ lt-ltb j (end - 64 * q) (omega arith) ∙ sym (lt-ltb n end l)
-      | inr g ↦ le-ltb j (end - 64 * q) (omega arith) ∙ sym (le-ltb n end g)
-    ]
+    carried j q n e = grind (arith, nat_tests)
 
 -- words of 0 have nothing
 pub none_in : (words : List ℕ) (k : ℕ) → (k < 256 → get_or words (k / 64) 0 ≡ 0) → in_set words k ≡ false

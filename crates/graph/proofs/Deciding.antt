@@ -1,8 +1,7 @@
 -- The ways through one split. Assumes nothing.
-use Rattle.std.proofs.Common.{arith, ◌≡◌, ℕ, ◌<◌, Bool, true, false, not, ◌&&◌, eqb, List, is_some, Some, None, Option, refl, ap, ◌∙◌, subst, ⊎_elim}
+use Rattle.std.proofs.Common.{arith, ◌≡◌, ℕ, ◌<◌, Bool, true, false, not, ◌&&◌, eqb, List, is_some, Some, None, Option, refl, subst}
 use mathlib.Core.Path.{fun_ext}
 use Rattle.std.proofs.lemmas.Bool.Decides.{nat_tests}
-use Rattle.std.proofs.lemmas.Bool.{and_from, and_right, eq-eqb, ne_eqb, cases_eq, cases_Bool, not_from_true, not_from_false, both_ways}
 use Rattle.graph.specs.declared.answers.Split.{Split}
 use Rattle.graph.specs.Answers.{Splits, Only}
 use Rattle.graph.specs.Finding.{FindsChain}

@@ -1,8 +1,9 @@
 -- How many numbers pass a test. Assumes nothing.
-use Rattle.std.proofs.Common.{◌≡◌, ℕ, zero, suc, ◌+◌, ◌*◌, ◌/◌, ◌%◌, ◌^◌, ◌<◌, ◌≤◌, Bool, true, false, cond, not, ◌&&◌, eqb, List, [], ◌∷◌, length, get_or, Some, sym, refl, ap, ◌∙◌, ⊎_elim, pow-suc, arith}
+use Rattle.std.proofs.Common.{◌≡◌, ℕ, zero, suc, ◌+◌, ◌*◌, ◌/◌, ◌%◌, ◌^◌, ◌<◌, ◌≤◌, Bool, true, false, cond, not, ◌&&◌, eqb, List, [], ◌∷◌, length, get_or, Some, sym, refl, ap, ◌∙◌, inl, inr, pow-suc, arith}
 use lib.Count.{ones, ones_step}
 use Rattle.std.specs.List.{sum_by}
-use Rattle.std.proofs.lemmas.Bool.{cases_eq, lt-ltb, cond_both, and_parts, and_right, not_from_true, eq-eqb}
+use Rattle.std.proofs.lemmas.Bool.Decides.{nat_tests}
+use Rattle.std.proofs.lemmas.Bool.{cases_eq, lt-ltb}
 use Rattle.graph.specs.declared.sets.MemberSet.{MemberSet}
 use Rattle.graph.specs.Members.{member, tally, TakesLowest}
 use Rattle.std.specs.Int.{bit_at}
@@ -26,35 +27,22 @@ tally_same f g (suc n) h =
 pub tally_le : (f : ℕ → Bool) (n : ℕ) → tally f n ≤ n
 unfolding tally
 tally_le f zero = omega arith
-tally_le f (suc n) =
-    let r = tally_le f n in
-    cond_both (f n) 1 0 (λ t. t + tally f n ≤ suc n) (λ _. omega arith) (λ _. omega arith)
+tally_le f (suc n) = let r = tally_le f n in grind (arith, nat_tests)
 
 -- what passes less passes no more
 pub tally_mono : (f g : ℕ → Bool) (n : ℕ) → ((j : ℕ) → f j ≡ true → g j ≡ true) → tally f n ≤ tally g n
 unfolding tally
 tally_mono f g zero h = omega arith
-tally_mono f g (suc n) h =
-    let r = tally_mono f g n h in
-    cond_both (f n) 1 0 (λ t. t + tally f n ≤ cond (g n) 1 0 + tally g n)
-    (λ e. let s = ap one_if (h n e) in omega arith) (λ _. omega arith)
+tally_mono f g (suc n) h = let r = tally_mono f g n h in let at = h n in grind (arith, nat_tests)
 
 -- and passes less where one number is lost
 pub tally_less : (f g : ℕ → Bool) (x n : ℕ) → ((j : ℕ) → f j ≡ true → g j ≡ true) → x < n → f x ≡ false → g x ≡ true → tally f n < tally g n
 unfolding tally
-tally_less f g x zero h l no_x yes_x = absurd (let z : ⊥ = omega arith in z)
-tally_less f g x (suc n) h l no_x yes_x =
-    ⊎_elim
-    (λ e.
-    let a = ap one_if (ap f e ∙ no_x) in
-    let b = ap one_if (ap g e ∙ yes_x) in
-    let r = tally_mono f g n h in
-    omega arith)
-    (λ ne.
-    let r = tally_less f g x n h (omega arith) no_x yes_x in
-    cond_both (f n) 1 0 (λ t. t + tally f n < cond (g n) 1 0 + tally g n)
-    (λ e. let s = ap one_if (h n e) in omega arith) (λ _. omega arith))
-    (cases_eq n x)
+tally_less f g x zero h l no_x yes_x = absurd (omega arith)
+tally_less f g x (suc n) h l no_x yes_x = elim (cases_eq x n) [
+  | inl same ↦ (let r = tally_mono f g n h in grind (arith, nat_tests))
+  | inr other ↦ (let r = tally_less f g x n h (omega arith) no_x yes_x in let at = h n in grind (arith, nat_tests))
+]
 
 -- the first of the numbers apart
 tally_first : (f : ℕ → Bool) (n : ℕ) → tally f (suc n) ≡ cond (f 0) 1 0 + tally (λ j. f (suc j)) n
@@ -126,9 +114,7 @@ tally_words (a ∷ b ∷ c ∷ d ∷ e ∷ more) long small = absurd (omega arit
 
 -- a member set that loses one of its numbers is smaller
 pub tally_removed : (f g : ℕ → Bool) (x : ℕ) → x < 256 → f x ≡ true → ((k : ℕ) → g k ≡ (f k && not (eqb k x))) → tally g 256 < tally f 256
-tally_removed f g x l m is =
-    tally_less g f x 256 (λ k t. (and_parts _ _ (sym (is k) ∙ t)).0) l
-    (is x ∙ and_right (f x) (not (eqb x x)) (not_from_true _ (eq-eqb x x refl))) m
+tally_removed f g x l m is = tally_less g f x 256 (λ k t. grind (arith, is)) l (grind (arith, nat_tests, is)) m
 
 pub taken_less : (s t : MemberSet) (x : ℕ) → TakesLowest (member s) (Some x) (member t) → tally (member t) 256 < tally (member s) 256
 taken_less s t x h = tally_removed (member s) (member t) x (member_small s x h.0.0) h.0.0 h.1

@@ -1,10 +1,9 @@
 -- The walk to a connected part, and the list of all parts. Assumes nothing.
 use Rattle.std.proofs.Common.{◌≡◌, ℕ, ◌+◌, ◌<◌, ◌≤◌, Bool, true, false, not, ◌&&◌, ◌||◌, eqb, ◌⊎◌, Some, sym, refl, ◌∙◌, subst, inl, inr, ⊎_elim, arith}
 use Rattle.std.proofs.lemmas.Bool.Decides.{nat_tests}
-use Rattle.std.proofs.lemmas.Bool.{and_parts, and_from, and_left, and_right, and_cases, or_cases, or_parts, or_from, or_left, or_right, eqb-true, eq-eqb, cases_eq, cases_lt, cases_order, cases_Bool, not-true, not-false, not_from_false, not_from_true, both_ways}
+use Rattle.std.proofs.lemmas.Bool.{false_from_ne_true, cases_eq, cases_Bool, both_ways}
 use Rattle.graph.specs.Members.{Lowest, tally}
 use Rattle.graph.specs.Graphs.{IsGraph}
-use Rattle.graph.specs.Laws.{untrue}
 use Rattle.graph.specs.Splitting.{Reaches, here, onward, PartOf, ListsParts}
 use Rattle.graph.proofs.Paths.{reached_in, stays, closed_is_part}
 use Rattle.graph.proofs.Tallies.{tally_le, tally_less}
@@ -87,10 +86,10 @@ pub listing_start : (joined : ℕ → ℕ → Bool) (set : ℕ → Bool) (part :
 listing_start joined set part = record {
   among = λ y m. m;
   closed = λ y z _ m _. m;
-  each = λ i l. absurd (let z : ⊥ = omega arith in z);
+  each = λ i l. absurd (omega arith);
   every = λ x m. inl m;
-  order = λ i j x y _ l. absurd (let z : ⊥ = omega arith in z);
-  ahead = λ i x y l. absurd (let z : ⊥ = omega arith in z);
+  order = λ i j x y _ l. absurd (omega arith);
+  ahead = λ i x y l. absurd (omega arith);
   room = omega (arith, tally_le set 256);
 }
 
@@ -112,24 +111,19 @@ module _ {joined : ℕ → ℕ → Bool} {left : ℕ → Bool} (x : ℕ) (found 
   from_left y f = reached_in ((is_found y).0 f)
 
   still_left : (y : ℕ) → left' y ≡ true → (left y ≡ true) × (found y ≡ false)
-  still_left y l = let p = and_parts (left y) _ (sym (is_left y) ∙ l) in (p.0, not-true _ p.1)
-
-  at_least : (y : ℕ) → left y ≡ true → x ≤ y
-  at_least y l = elim (cases_lt y x) [ inl b ↦ absurd (both_ways _ (low.1 y b) l) | inr g ↦ g ]
+  still_left y l = grind (arith, is_left)
 
   -- the new part's lowest number is below what is left then
   below_rest : (v y : ℕ) → Lowest found (Some v) → left' y ≡ true → v < y
   below_rest v y lv l =
       let s = still_left y l in
-      let a = at_least y s.0 in
-      elim (cases_order v x) [
-        | inl e ↦ elim (cases_eq y x) [ inl same ↦ absurd (both_ways _ s.1 (rw same has_x)) | inr n ↦ omega arith ]
-        | inr (inl b) ↦ omega arith
-        | inr (inr b) ↦ absurd (both_ways _ (lv.1 x b) has_x)
-      ]
+      let not_below = low.1 y in
+      let lowest = lv.1 x in
+      let has = has_x in
+      elim (cases_eq x y) [ inl same ↦ absurd (both_ways _ s.1 (rw same at has)) | inr other ↦ grind arith ]
 
   pub listing_less : tally left' 256 < tally left 256
-  listing_less = tally_less left' left x 256 (λ y l. (still_left y l).0) small (is_left x ∙ and_right (left x) _ (not_from_true _ has_x)) low.0
+  listing_less = tally_less left' left x 256 (λ y l. (still_left y l).0) small (let has = has_x in grind (arith, is_left)) low.0
 
   module _ {size : ℕ} (G : IsGraph size joined) {set : ℕ → Bool} {count : ℕ} {part : ℕ → ℕ → Bool} (part' : ℕ → ℕ → Bool)
       (here_found : part' count ≡ found) (as_before : (i : ℕ) → i < count → part' i ≡ part i) (L : Listing joined set left count part) where
@@ -141,17 +135,15 @@ module _ {joined : ℕ → ℕ → Bool} {left : ℕ → Bool} (x : ℕ) (found 
       among = λ y l. L.among y (still_left y l).0;
       closed = λ y z l m j.
           let s = still_left y l in
-          is_left z ∙ and_from _ _ (L.closed y z s.0 m j)
-          (not_from_false _ (untrue _ (λ f. both_ways _ s.1 ((is_found y).1 (onward ((is_found z).0 f) (G.symmetric z y ∙ j) s.0)))));
+          let old = L.closed y z s.0 m j in
+          let out : found z ≡ false = false_from_ne_true _ (λ f. both_ways _ s.1 ((is_found y).1 (onward ((is_found z).0 f) (G.symmetric z y ∙ j) s.0))) in
+          grind (arith, is_left);
       each = λ i l. elim (new_or_old i l) [
-        | inl e ↦ rw (e, here_found) (x, (has_x, λ y b. untrue _ (λ f. both_ways _ (low.1 y b) (from_left y f))), part_of_whole left L.among L.closed x found low.0 is_found)
+        | inl e ↦ rw (e, here_found) (x, (has_x, λ y b. false_from_ne_true _ (λ f. both_ways _ (low.1 y b) (from_left y f))), part_of_whole left L.among L.closed x found low.0 is_found)
         | inr b ↦ rw (as_before i b) (L.each i b)
       ];
       every = λ v m. elim (L.every v m) [
-        | inl l ↦ elim (cases_Bool (found v)) [
-          | inl f ↦ inr (count, omega arith, rw here_found f)
-          | inr f ↦ inl (is_left v ∙ and_from _ _ l (not_from_false _ f))
-        ]
+        | inl l ↦ elim (cases_Bool (found v)) [ inl f ↦ inr (count, omega arith, rw here_found f) | inr f ↦ inl (grind (arith, is_left)) ]
         | inr t ↦ (let b = t.1 in inr (t.0, omega arith, rw (as_before t.0 t.1) t.2))
       ];
       order = λ i j v y b l lv p. elim (new_or_old j l) [
