@@ -62,6 +62,14 @@ within op none k x y z at = elim (cases_Bool (ltb k 256)) [
   | inr f ↦ rw f (sym none)
 ]
 
+-- words that are made of the words of two sets, place by place and bit by bit
+pub by_words : (op : Bool → Bool → Bool) (word : ℕ → ℕ → ℕ) → op false false ≡ false →
+    ((x y j : ℕ) → y < 2 ^ 64 → j < 64 → has_bit (word x y) j ≡ op (has_bit x j) (has_bit y j)) → (a b made : List ℕ) →
+    ((i : ℕ) → i < 4 → get_or b i 0 < 2 ^ 64) → ((i : ℕ) → i < 4 → get_or made i 0 ≡ word (get_or a i 0) (get_or b i 0)) →
+    (k : ℕ) → in_set made k ≡ op (in_set a k) (in_set b k)
+by_words op word none bits a b made small is k = within op none k _ _ _
+    (λ h. let row : k / 64 < 4 = omega arith in ap (λ n. has_bit n (k % 64)) (is (k / 64) row) ∙ bits _ _ (k % 64) (small (k / 64) row) (omega arith))
+
 -- word k / 64 is replaced by one that differs at most in bit k % 64
 pub changed : (op : Bool → Bool → Bool) → ((x : Bool) → op x false ≡ x) → (words : List ℕ) (k j word : ℕ) → k < 256 → k / 64 < length words →
     ((i : ℕ) → i < 64 → has_bit word i ≡ op (has_bit (get_or words (k / 64) 0) i) (eqb i (k % 64))) →
