@@ -5,6 +5,8 @@ ghost use Rattle.graph.specs.Members.{member};
 use crate::graphs::Graph;
 use crate::sets::MemberSet;
 
+// A graph and a selected set are two parameters, since one graph is asked about many sets and no fact ties the two.
+
 /// Four selected numbers that form a chain, in its order; or none, where no four do.
 /// A chain read backwards is a chain, so a member that was tried as the second need not be tried as the third.
 pub fn chain<G: Graph>(graph: &G, selected: MemberSet) -> Option<[u8; 4]>

@@ -11,6 +11,8 @@ use crate::graphs::{Complement, Graph};
 use crate::sets::MemberSet;
 use crate::walks::parts;
 
+// A graph and a selected set are two parameters, since one graph is asked about many sets and no fact ties the two.
+
 /// Splits the selected members; selected numbers that are no members are left out.
 /// A set of members splits down to single ones, part by part, exactly when no four of it form a chain.
 pub fn split<G: Graph>(graph: &G, selected: MemberSet) -> Split

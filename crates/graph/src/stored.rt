@@ -37,6 +37,7 @@ impl StoredGraph {
         ensures pairs { (a b : ℕ) → stored self.new.rows a b ≡ with_all (members_in self.old.count (member set)) (stored self.old.rows) a b }
     {
         let all = set.intersection(MemberSet::below(self.size()));
+        // The rows are lent to the loop, since between its turns the relation is not symmetric.
         let rows = &mut self.rows;
         for a in all {
             let mut others = all;

@@ -6,7 +6,7 @@ use crate::sets::MemberSet;
 use crate::splits::split;
 use crate::stored::StoredGraph;
 
-// What a split says: nothing, one member, so many parts in the graph or in the complement, or a chain.
+// What a test compares of a split: how many parts there are, and not which.
 #[derive(Clone, Copy, PartialEq, Eq, Debug)]
 enum Kind {
     Empty,
@@ -112,4 +112,15 @@ fn members(rt: HostRuntime) {
     assert_eq!(rt; set.lowest(), Some(64));
     assert_eq!(rt; MemberSet::below(256).difference(set).lowest(), Some(0));
     assert!(rt; MemberSet::empty().is_empty());
+}
+
+#[test]
+fn in_order(rt: HostRuntime) {
+    let mut set = MemberSet::from([255, 64, 3, 64]);
+    assert_eq!(rt; set.pop_first(), Some(3));
+    let mut numbers = set.into_iter();
+    assert_eq!(rt; numbers.next(), Some(64));
+    assert_eq!(rt; numbers.next(), Some(255));
+    assert_eq!(rt; numbers.next(), None);
+    assert_eq!(rt; set, MemberSet::from([64, 255]));
 }

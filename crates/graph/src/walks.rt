@@ -10,13 +10,13 @@ use crate::graphs::Graph;
 use crate::sets::MemberSet;
 use lists::FixedList;
 
+// A graph and a selected set are two parameters, since one graph is asked about many sets and no fact ties the two.
+
 /// The connected part of `start` within the selected set: empty where `start` is not selected.
 pub fn part<G: Graph>(graph: &G, selected: MemberSet, start: u8) -> MemberSet
     ensures { PartOf (G.Graph.joins graph.now) (member selected) start (member result) }
 {
-    let mut frontier = MemberSet::empty();
-    frontier.insert(start);
-    frontier = frontier.intersection(selected);
+    let mut frontier = MemberSet::from([start]).intersection(selected);
     let mut rest = selected.difference(frontier);
     while let Some(x) = frontier.pop_first() {
         let fresh = graph.neighbours(x).intersection(rest);

@@ -1,12 +1,13 @@
-use Rattle.std.proofs.Common.{◌&&◌, ◌||◌, eqb, ap, ◌∙◌, rules}
+use Rattle.std.proofs.Common.{◌&&◌, eqb, ap, ◌∙◌, rules}
 use Rattle.graph.specs.Members.{member}
+use Rattle.graph.proofs.Bits.{or_keeps}
 use Rattle.graph.proofs.Walking.{walk_start, walk_more, walk_less, walk_end}
 use Rattle.graph.proofs.walks.part.Goals as goal
 
 pub loop-x-init : goal.loop-x-init
 loop-x-init g c =
-    walk_start (member c.insert.new.self) (member c.intersection-frontier.result) (member c.difference-rest.result)
-    (λ y. c.insert.ensures y ∙ ap (λ t. t || eqb y c.args.start) (c.empty-frontier.ensures y)) c.intersection-frontier.ensures c.difference-rest.ensures
+    walk_start (member c.from.result) (member c.intersection-frontier.result) (member c.difference-rest.result)
+    (λ y. c.from.ensures y ∙ or_keeps (eqb y c.args.start)) c.intersection-frontier.ensures c.difference-rest.ensures
 
 pub loop-x-smaller : goal.loop-x-smaller
 loop-x-smaller g c =
