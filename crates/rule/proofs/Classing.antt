@@ -9,38 +9,18 @@ use Rattle.std.proofs.lemmas.List.{length-drop, get_or-drop, take_rest, drop_mor
 use Rattle.rule.specs.declared.tokens.Class.{Class}
 use Rattle.rule.specs.declared.tokens.Class.TheVariants.{Blank, Name, Open, Close, Colon, Comma, Table, Variable, Digit, Other}
 use Rattle.rule.specs.Classes as classes
-use Rattle.rule.specs.Classes.{class, code, is, run_of}
-
--- the class with a number
-abbrev from_code : ℕ → Class
-from_code n =
-    cond (eqb n 0) Blank
-    (cond (eqb n 1) Name
-    (cond (eqb n 2) Open
-    (cond (eqb n 3) Close
-    (cond (eqb n 4) Colon
-    (cond (eqb n 5) Comma (cond (eqb n 6) Table (cond (eqb n 7) Variable (cond (eqb n 8) Digit Other))))))))
-
-from_code_code : (c : Class) → from_code (code c) ≡ c
-from_code_code Blank = refl
-from_code_code Name = refl
-from_code_code Open = refl
-from_code_code Close = refl
-from_code_code Colon = refl
-from_code_code Comma = refl
-from_code_code Table = refl
-from_code_code Variable = refl
-from_code_code Digit = refl
-from_code_code Other = refl
+use Rattle.rule.specs.Classes.{class, is, run_of}
+use denote.Enum.Bare.{same_true, true_same, false_same}
+use Rattle.rule.specs.contracts.tokens.Class.{the_type}
 
 pub is_same : (c d : Class) → is c d ≡ true → c ≡ d
-is_same c d e = sym (from_code_code c) ∙ (ap from_code (eqb-true (code c) (code d) e) ∙ from_code_code d)
+is_same c d = same_true the_type tt c d
 
 pub same_is : (c d : Class) → c ≡ d → is c d ≡ true
-same_is c d e = eq-eqb (code c) (code d) (ap code e)
+same_is c d = true_same the_type c d
 
 pub other_is : (c d : Class) → (c ≡ d → ⊥) → is c d ≡ false
-other_is c d h = ne_eqb (code c) (code d) (λ e. h (is_same c d (eq-eqb (code c) (code d) e)))
+other_is c d = false_same the_type tt c d
 
 -- what a class says of its byte
 abbrev pub Kind : Class → ℕ → Type 0

@@ -4,7 +4,7 @@ ghost use Rattle.rule.specs.Classes.{class, run_of};
 ghost use Rattle.rule.specs.Lexing.{Lexed, Found, place_of, past_spaces};
 
 // What a byte may be, or may begin.
-#[derive(Clone, Copy, PartialEq, Eq)]
+#[derive(Clone, Copy, PartialEq, Eq, Debug)]
 pub(super) enum Class {
     Blank,
     Name,
@@ -31,22 +31,30 @@ pub(super) enum Token<'a> {
     End(usize),
 }
 
-// The class of a character.
-fn class_of(c: char) -> Class
-    ensures { result ≡ class c }
-{
-    match c {
-        ' ' => Class::Blank,
-        'Q' => Class::Name,
-        '(' => Class::Open,
-        ')' => Class::Close,
-        ':' => Class::Colon,
-        ',' => Class::Comma,
-        'A'..='H' => Class::Table,
-        'a'..='z' => Class::Variable,
-        '0'..='9' => Class::Digit,
-        _ => Class::Other,
+impl From<char> for Class {
+    ghost from_gives = { λ c kind. kind ≡ class c };
+
+    fn from(c: char) -> Class {
+        match c {
+            ' ' => Class::Blank,
+            'Q' => Class::Name,
+            '(' => Class::Open,
+            ')' => Class::Close,
+            ':' => Class::Colon,
+            ',' => Class::Comma,
+            'A'..='H' => Class::Table,
+            'a'..='z' => Class::Variable,
+            '0'..='9' => Class::Digit,
+            _ => Class::Other,
+        }
     }
+}
+
+// The class of a byte.
+fn class_of(byte: u8) -> Class
+    ensures { result ≡ class byte }
+{
+    Class::from(char::from(byte))
 }
 
 // How many bytes of the class the text begins with.
@@ -54,10 +62,7 @@ fn run_of(text: &[u8], class: Class) -> usize
     ensures is { result ≡ run_of class text.now }
     ensures within { result ≤ length text.now }
 {
-    match text {
-        [first, rest @ ..] if class_of(char::from(*first)) == class => 1 + run_of(rest, class),
-        _ => 0,
-    }
+    text.iter().take_while(|byte| class_of(**byte) == class).count()
 }
 
 // The first place from here on that holds no space.
@@ -76,7 +81,7 @@ pub(super) fn mark(text: &[u8], from: usize, class: Class) -> Result<usize, usiz
     ensures { Found text.now from class result }
 {
     let at = skip(text, from);
-    if at < text.len() && class_of(char::from(text[at])) == class {
+    if at < text.len() && class_of(text[at]) == class {
         Ok(at + 1)
     } else {
         Err(at)
@@ -93,7 +98,7 @@ pub(super) fn next_token(text: &[u8], from: usize) -> Token<'_>
         return Token::End(at);
     }
     let rest = &text[at..];
-    match class_of(char::from(text[at])) {
+    match class_of(text[at]) {
         Class::Table => Token::Table(&rest[0..1], at),
         Class::Variable => Token::Variable(&rest[0..1], at),
         Class::Digit => Token::Constant(&rest[0..run_of(rest, Class::Digit)], at),
