@@ -9,8 +9,8 @@ use Rattle.std.proofs.lemmas.Int.Digits.{digits_value_is, number_after_append, n
 use Rattle.std.proofs.lemmas.Str.Parse.{digit_from_value}
 use Rattle.std.proofs.lemmas.Bool.{le-leb}
 use Rattle.rule.specs.declared.tokens.Class.TheVariants.{Blank, Digit}
-use Rattle.rule.specs.declared.atoms.Term.{Term}
-use Rattle.rule.specs.declared.atoms.Term.TheVariants as terms
+use Rattle.rule.specs.declared.rules.Term.{Term}
+use Rattle.rule.specs.declared.rules.Term.TheVariants as terms
 use Rattle.rule.specs.Classes.{class}
 use Rattle.rule.specs.Grammar.{Said, Symbol, Writes, Spells, Says, Numeral, OneOrMore, further, term_symbols, atom_symbols}
 use Rattle.rule.specs.Scanning.{State, grown, next, scan, onward}

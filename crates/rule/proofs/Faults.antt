@@ -2,6 +2,7 @@
 use Rattle.std.proofs.Common.{◌≡◌, ℕ, suc, ◌+◌, ◌<◌, ◌≤◌, List, [], ◌∷◌, ◌++◌, map, length, take, drop, Some, None, Ok, Err, Option, sym, refl, ap, ◌∙◌, subst, inl, inr, append_assoc, add-one, arith}
 use Rattle.std.proofs.lemmas.List.{take-take, take-append-drop}
 use Rattle.std.proofs.lemmas.Bool.{cases_lt, cases_order}
+use Rattle.rule.specs.declared.refusal.Refusal.{Refusal}
 use Rattle.rule.specs.declared.rules.Rule.{Rule}
 use Rattle.rule.specs.Classes.{class}
 use Rattle.rule.specs.Grammar.{Said, Says, Lawful, Continues, BreaksAt}
@@ -139,14 +140,14 @@ some_atom : (raw : List ℕ) (all : List Said) → Says raw all → 0 < length a
 some_atom raw [] h = absurd h.some
 some_atom raw (a ∷ all) h = omega arith
 
-pub err_answered : (raw : List ℕ) (at : ℕ) → Refused raw at → Answered raw (Err at)
+pub err_answered : (raw : List ℕ) (at : ℕ) → Refused raw at → Answered raw (Err (record { at = at }))
 err_answered raw at r =
     record {
-      says = λ rule e. absurd (err_not_ok at rule e);
-      ok = (λ h. absurd (err_not_ok at h.0 h.1), λ h. absurd (not_both raw at h.0 h.1 r));
+      says = λ rule e. absurd (err_not_ok (record { at = at }) rule e);
+      ok = (λ h. absurd (err_not_ok (record { at = at }) h.0 h.1), λ h. absurd (not_both raw at h.0 h.1 r));
       err = λ i. (
-        λ e. let same : at ≡ i = cc in subst (Refused raw) same r,
-        λ s. ap Err (one_place raw at i r s),
+        λ e. let same : ◌≡◌ {A = Refusal} (record { at = at }) (record { at = i }) = cc in subst (λ f. Refused raw f.at) same r,
+        λ s. ap (λ j. Err (record { at = j })) (one_place raw at i r s),
       );
       one = one_reading raw;
       some = some_atom raw;
@@ -158,10 +159,10 @@ ok_answered raw rule all l e m =
     record {
       says = λ other f. let same : rule ≡ other = cc in (all, w, subst (λ r. atoms_of r ≡ map kept all) same m);
       ok = (λ _. (l, (all, w)), λ _. (rule, refl));
-      err = λ i. (λ f. absurd (err_not_ok i rule (sym f)), λ r. absurd (not_both raw i l (all, w) r));
+      err = λ i. (λ f. absurd (err_not_ok (record { at = i }) rule (sym f)), λ r. absurd (not_both raw i l (all, w) r));
       one = one_reading raw;
       some = some_atom raw;
     }
 
-pub refused_answered : (raw : List ℕ) (at : ℕ) → length raw ≤ 512 → scan State.start 0 raw ≡ Err at → Answered raw (Err at)
+pub refused_answered : (raw : List ℕ) (at : ℕ) → length raw ≤ 512 → scan State.start 0 raw ≡ Err at → Answered raw (Err (record { at = at }))
 refused_answered raw at l e = err_answered raw at (inr (l, breaks raw at e))

@@ -7,8 +7,8 @@ use Rattle.std.proofs.lemmas.Str.{digit_value_digit}
 use Rattle.std.proofs.lemmas.Bool.{cond_both, and_parts, leb-true, eqb-true}
 use Rattle.rule.specs.declared.tokens.Class.{Class}
 use Rattle.rule.specs.declared.tokens.Class.TheVariants.{Blank, Name, Open, Close, Colon, Comma, Table, Variable, Digit}
-use Rattle.rule.specs.declared.atoms.Term.{Term}
-use Rattle.rule.specs.declared.atoms.Term.TheVariants as terms
+use Rattle.rule.specs.declared.rules.Term.{Term}
+use Rattle.rule.specs.declared.rules.Term.TheVariants as terms
 use Rattle.rule.specs.Classes.{class, is}
 use Rattle.rule.specs.Grammar.{Said, Symbol, Writes, Spells, Says, Numeral, OneOrMore, further, parted, term_symbols, atom_symbols, rule_symbols}
 use Rattle.rule.specs.Scanning.{State, only, grown, behind_term, next, ended, finish, scan, onward}

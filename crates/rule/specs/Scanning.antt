@@ -3,8 +3,8 @@ use Rattle.std.specs.Prelude.{ℕ, ◌+◌, ◌-◌, cond, ◌&&◌, List, [], �
 use Rattle.std.specs.Str.Parse.{digits_value}
 use Rattle.rule.specs.declared.tokens.Class.{Class}
 use Rattle.rule.specs.declared.tokens.Class.TheVariants.{Blank, Name, Open, Close, Colon, Comma, Table, Variable, Digit}
-use Rattle.rule.specs.declared.atoms.Term.{Term}
-use Rattle.rule.specs.declared.atoms.Term.TheVariants as terms
+use Rattle.rule.specs.declared.rules.Term.{Term}
+use Rattle.rule.specs.declared.rules.Term.TheVariants as terms
 use Rattle.rule.specs.Classes.{class, is}
 use Rattle.rule.specs.Grammar.{Said}
 

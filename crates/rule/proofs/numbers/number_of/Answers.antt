@@ -5,7 +5,7 @@ use Rattle.std.proofs.lemmas.Str.Parse.{digit_at}
 use Rattle.std.proofs.lemmas.Bool.{and_parts, leb-true}
 use Rattle.std.proofs.lemmas.Str.{digit_value_digit}
 use Rattle.rule.proofs.Walking.{sofar_more, sofar_stop, sofar_all}
-use Rattle.rule.proofs.reading.read_number.Goals as goal
+use Rattle.rule.proofs.numbers.number_of.Goals as goal
 
 small : (count n : ℕ) → true ≡ (leb count 10 && leb n 4294967295) → n ≤ 4294967295
 small count n e = leb-true n 4294967295 (and_parts (leb count 10) (leb n 4294967295) (sym e)).1
