@@ -2,7 +2,8 @@
 use Rattle.std.proofs.Common.{◌≡◌, ℕ, ◌+◌, ◌-◌, ◌<◌, ◌≤◌, true, false, eqb, List, [], ◌∷◌, length, get_or, take, drop, sym, ap, ◌∙◌, subst, one-add, arith}
 use Rattle.std.specs.Str.Parse.{AllDigits}
 use Rattle.std.proofs.lemmas.Str.{digit_value_digit}
-use Rattle.std.proofs.lemmas.Bool.{eqb-true, ne_eqb, leb-true, le-leb, lt-leb, and_parts, cond_both, cond-true, true≢false}
+use Rattle.std.proofs.lemmas.Bool.Decides.{nat_tests}
+use Rattle.std.proofs.lemmas.Bool.{eqb-true, leb-true, and_parts, cond_both, cond-true, true≢false}
 use Rattle.std.proofs.lemmas.List.{length-drop, get_or-drop, take_rest, drop_more}
 use Rattle.std.proofs.lemmas.List.Sums.{prefix_len_stops}
 use Rattle.rule.specs.declared.tokens.Class.{Class}
@@ -59,16 +60,13 @@ kind_of c b e = kind_at c b (is_same (class b) c e)
 -- the classes of letters and digits
 module _ (b : ℕ) where
   pub table_class : 65 ≤ b → b ≤ 72 → class b ≡ Table
-  table_class l h =
-      rw (ne_eqb b 32 (omega arith), ne_eqb b 81 (omega arith), ne_eqb b 40 (omega arith), ne_eqb b 41 (omega arith), ne_eqb b 58 (omega arith), ne_eqb b 44 (omega arith), le-leb 65 b l, le-leb b 72 h)
+  table_class l h = grind (arith, nat_tests)
 
   pub variable_class : 97 ≤ b → b ≤ 122 → class b ≡ Variable
-  variable_class l h =
-      rw (ne_eqb b 32 (omega arith), ne_eqb b 81 (omega arith), ne_eqb b 40 (omega arith), ne_eqb b 41 (omega arith), ne_eqb b 58 (omega arith), ne_eqb b 44 (omega arith), le-leb 65 b (omega arith), lt-leb b 72 (omega arith), le-leb 97 b l, le-leb b 122 h)
+  variable_class l h = grind (arith, nat_tests)
 
   pub digit_class : 48 ≤ b → b ≤ 57 → class b ≡ Digit
-  digit_class l h =
-      rw (ne_eqb b 32 (omega arith), ne_eqb b 81 (omega arith), ne_eqb b 40 (omega arith), ne_eqb b 41 (omega arith), ne_eqb b 58 (omega arith), ne_eqb b 44 (omega arith), lt-leb 65 b (omega arith), lt-leb 97 b (omega arith), le-leb 48 b l, le-leb b 57 h)
+  digit_class l h = grind (arith, nat_tests)
 
 -- behind them comes none of it
 pub run_stops : (c : Class) (text : List ℕ) (from r : ℕ) → r ≡ run_of c (drop from text) → from + r < length text

@@ -130,14 +130,10 @@ module _ {before : Reader} {a : Atom} {now : Reader} {ts : List Term} (g : Begun
 
     not_part : (k : Token) → ((p : ℕ) → k ≡ tokens.Comma p → ⊥) → ((p : ℕ) → k ≡ tokens.Close p → ⊥)
         → (d : List Said) → Refuses (State.said d a.table all) k
-    not_part (tokens.Table s p) c e d = λ b. refl
-    not_part (tokens.Variable s p) c e d = λ b. refl
-    not_part (tokens.Constant s p) c e d = λ b. refl
-    not_part (tokens.Open p) c e d = λ b. refl
     not_part (tokens.Close p) c e d = absurd (e p refl)
     not_part (tokens.Comma p) c e d = absurd (c p refl)
     not_part (tokens.Other p) c e d = λ b k o. rw (o.blank, o.comma, o.close_bracket)
-    not_part (tokens.End p) c e d = refl
+    not_part _ c e d = λ b. refl
 
     pub no_part : {k : Token} {after : Reader} → Lexed mid k after → ((p : ℕ) → k ≡ tokens.Comma p → ⊥) → ((p : ℕ) → k ≡ tokens.Close p → ⊥)
         → AtomRead before (Err (record { at = place_of k })) after
@@ -146,13 +142,8 @@ module _ {before : Reader} {a : Atom} {now : Reader} {ts : List Term} (g : Begun
 -- a token that is no table
 not_table : (k : Token) → ((s : Bor (List ℕ)) (p : ℕ) → k ≡ tokens.Table s p → ⊥) → (d : List Said) → Refuses (State.atom d) k
 not_table (tokens.Table s p) c d = absurd (c s p refl)
-not_table (tokens.Variable s p) c d = λ b. refl
-not_table (tokens.Constant s p) c d = λ b. refl
-not_table (tokens.Open p) c d = λ b. refl
-not_table (tokens.Close p) c d = λ b. refl
-not_table (tokens.Comma p) c d = λ b. refl
 not_table (tokens.Other p) c d = λ b k o. rw (o.blank, o.table)
-not_table (tokens.End p) c d = refl
+not_table _ c d = λ b. refl
 
 pub no_table : {before : Reader} {k : Token} {after : Reader} → Lexed before k after → ((s : Bor (List ℕ)) (p : ℕ) → k ≡ tokens.Table s p → ⊥)
     → AtomRead before (Err (record { at = place_of k })) after
@@ -194,14 +185,10 @@ module _ {text : List ℕ} {rule : Rule} {now : Reader} {before : List Said} (g 
     ended_here {at} h = answers_after ∙ ends mid (State.end all_said) refl at h.begins
 
     not_end : (k : Token) → ((p : ℕ) → k ≡ tokens.Comma p → ⊥) → ((p : ℕ) → k ≡ tokens.End p → ⊥) → Refuses (State.end all_said) k
-    not_end (tokens.Table s p) c e = λ b. refl
-    not_end (tokens.Variable s p) c e = λ b. refl
-    not_end (tokens.Constant s p) c e = λ b. refl
-    not_end (tokens.Open p) c e = λ b. refl
-    not_end (tokens.Close p) c e = λ b. refl
     not_end (tokens.Comma p) c e = absurd (c p refl)
-    not_end (tokens.Other p) c e = λ b k o. rw (o.blank, o.comma)
     not_end (tokens.End p) c e = absurd (e p refl)
+    not_end (tokens.Other p) c e = λ b k o. rw (o.blank, o.comma)
+    not_end _ c e = λ b. refl
 
     pub no_end : {k : Token} {after : Reader} → Lexed mid k after → ((p : ℕ) → k ≡ tokens.Comma p → ⊥) → ((p : ℕ) → k ≡ tokens.End p → ⊥)
         → scan State.start 0 text ≡ Err (place_of k)

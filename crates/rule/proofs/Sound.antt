@@ -39,10 +39,6 @@ Terms d k before ts new all = (all ≡ d ++ (record { table = k; terms = before 
 
 -- with those before they are all the atoms
 abbrev Makes : State → List Term → List Said → List Said → Type 0
-Makes State.start ts new all = Atoms [] new all
-Makes State.named ts new all = Atoms [] new all
-Makes State.opened ts new all = Atoms [] new all
-Makes State.closed ts new all = Atoms [] new all
 Makes State.colon ts new all = ⊥
 Makes (State.atom d) ts new all = Atoms d new all
 Makes (State.table d k) ts new all = Terms d k [] ts new all × OneOrMore ts
@@ -50,6 +46,7 @@ Makes (State.term d k before) ts new all = Terms d k before ts new all × OneOrM
 Makes (State.digits d k before ds) ts new all = ⊥
 Makes (State.said d k before) ts new all = Terms d k before ts new all
 Makes (State.end d) ts new all = (all ≡ d ++ new) × Each new
+Makes _ ts new all = Atoms [] new all
 
 pub record Between (q : State) (raw : List ℕ) (all : List Said) : Type 0 where
   ts : List Term
@@ -59,17 +56,9 @@ pub record Between (q : State) (raw : List ℕ) (all : List Said) : Type 0 where
 
 -- the bytes ahead, where a token may be begun
 abbrev Rest : State → List ℕ → List Said → Type 0
-Rest State.start raw all = Between State.start raw all
-Rest State.named raw all = Between State.named raw all
-Rest State.opened raw all = Between State.opened raw all
-Rest State.closed raw all = Between State.closed raw all
 Rest State.colon raw all = Between State.closed (58 ∷ raw) all
-Rest (State.atom d) raw all = Between (State.atom d) raw all
-Rest (State.table d k) raw all = Between (State.table d k) raw all
-Rest (State.term d k ts) raw all = Between (State.term d k ts) raw all
 Rest (State.digits d k ts ds) raw all = Numeral ds → Between (State.term d k ts) (ds ++ raw) all
-Rest (State.said d k ts) raw all = Between (State.said d k ts) raw all
-Rest (State.end d) raw all = Between (State.end d) raw all
+Rest q raw all = Between q raw all
 
 abbrev After : Option State → List ℕ → List Said → Type 0
 After (Some q) raw all = Rest q raw all
@@ -188,17 +177,8 @@ err_not_ok b a e = let z : ◌≡◌ {A = ℕ} 0 1 = cc in omega arith
 
 -- where a text may end
 finished : (q : State) (n : ℕ) (all : List Said) → finish (ended q) n ≡ Ok all → Rest q [] all
-finished State.start n all e = absurd (err_not_ok n all e)
-finished State.named n all e = absurd (err_not_ok n all e)
-finished State.opened n all e = absurd (err_not_ok n all e)
-finished State.closed n all e = absurd (err_not_ok n all e)
-finished State.colon n all e = absurd (err_not_ok n all e)
-finished (State.atom d) n all e = absurd (err_not_ok n all e)
-finished (State.table d k) n all e = absurd (err_not_ok n all e)
-finished (State.term d k ts) n all e = absurd (err_not_ok n all e)
-finished (State.digits d k ts ds) n all e = absurd (err_not_ok n all e)
-finished (State.said d k ts) n all e = absurd (err_not_ok n all e)
 finished (State.end d) n all e = let f : d ≡ all = cc in record { ts = []; new = []; makes = (sym f ∙ sym (append-nil d), tt); spells = Spells.none }
+finished _ n all e = absurd (err_not_ok n all e)
 
 behind_step : (o : Option State) (n : ℕ) (raw : List ℕ) (all : List Said)
     → ((q : State) → scan q (n + 1) raw ≡ Ok all → Rest q raw all) → onward o n raw ≡ Ok all → After o raw all

@@ -101,14 +101,10 @@ module _ {before : Reader} {s : Bor (List ℕ)} {at : ℕ} {after : Reader} (h :
 -- a token that is no term
 not_term : (t : Token) → ((s : Bor (List ℕ)) (at : ℕ) → t ≡ tokens.Variable s at → ⊥) → ((s : Bor (List ℕ)) (at : ℕ) → t ≡ tokens.Constant s at → ⊥)
     → (d : List Said) (k : ℕ) (ts : List Term) → Refuses (State.term d k ts) t
-not_term (tokens.Table s at) v c d k ts = λ b. refl
 not_term (tokens.Variable s at) v c d k ts = absurd (v s at refl)
 not_term (tokens.Constant s at) v c d k ts = absurd (c s at refl)
-not_term (tokens.Open at) v c d k ts = λ b. refl
-not_term (tokens.Close at) v c d k ts = λ b. refl
-not_term (tokens.Comma at) v c d k ts = λ b. refl
 not_term (tokens.Other at) v c d k ts = λ b k o. rw (o.blank, o.variable, o.digit)
-not_term (tokens.End at) v c d k ts = refl
+not_term _ v c d k ts = λ b. refl
 
 pub no_term : {before : Reader} {t : Token} {after : Reader} → Lexed before t after → ((s : Bor (List ℕ)) (at : ℕ) → t ≡ tokens.Variable s at → ⊥)
     → ((s : Bor (List ℕ)) (at : ℕ) → t ≡ tokens.Constant s at → ⊥) → TermRead before (Err (record { at = place_of t })) after

@@ -52,7 +52,7 @@ Refuses q (tokens.Open at) = (b : ℕ) → next q Open b ≡ None
 Refuses q (tokens.Close at) = (b : ℕ) → next q Close b ≡ None
 Refuses q (tokens.Comma at) = (b : ℕ) → next q Comma b ≡ None
 Refuses q (tokens.Other at) = (b : ℕ) (c : Class) → Odd c → next q c b ≡ None
-Refuses q (tokens.End at) = ended q ≡ None
+Refuses q (tokens.End at) = (b : ℕ) → ended q ≡ None
 
 -- the answer at a place is the answer of a reader that has gone there
 pub moved : (before : Reader) (at : ℕ) (after : Reader) → Moved before at after → (q : State) → answer before.text.now q at ≡ answer_of after q
@@ -89,7 +89,7 @@ module _ (r : Reader) (q : State) (rests : Rests q) where
   refused (tokens.Close at) h n = odd_byte Close at h n
   refused (tokens.Comma at) h n = odd_byte Comma at h n
   refused (tokens.Other at) h n = odd_byte h.0 at h.2 (λ b. n b h.0 h.1)
-  refused (tokens.End at) h n = ends at h ∙ ap (λ o. finish o at) n
+  refused (tokens.End at) h n = ends at h ∙ ap (λ o. finish o at) (n 0)
 
 -- over a mark from one state to the next, or to the fault
 abbrev pub Passes : Reader → State → State → Result (Unit {0}) Refusal → Reader → Type 0

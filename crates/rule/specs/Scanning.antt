@@ -53,17 +53,8 @@ next (end d) c b = only Comma (atom d) c (end d)
 
 -- where a text may end, with the atoms that it says then
 abbrev pub ended : State → Option (List Said)
-ended start = None
-ended named = None
-ended opened = None
-ended closed = None
-ended colon = None
-ended (atom d) = None
-ended (table d k) = None
-ended (term d k ts) = None
-ended (digits d k ts ds) = None
-ended (said d k ts) = None
 ended (end d) = Some d
+ended _ = None
 
 -- what the reader answers where the text ends: the atoms, or the place
 abbrev pub finish : Option (List Said) → ℕ → Result (List Said) ℕ

@@ -16,11 +16,7 @@ place_of (End at) = at
 
 -- how many bytes a reader goes over with a token
 abbrev pub length_of : Token → ℕ
-length_of (Table s at) = 1
-length_of (Variable s at) = 1
 length_of (Constant s at) = length s.now
-length_of (Open at) = 1
-length_of (Close at) = 1
-length_of (Comma at) = 1
 length_of (Other at) = 0
 length_of (End at) = 0
+length_of _ = 1
