@@ -1,10 +1,10 @@
 -- What a class says of its byte, and how many bytes of a class a text begins with.
-use Rattle.std.proofs.Common.{◌≡◌, ℕ, ◌+◌, ◌-◌, ◌<◌, ◌≤◌, true, false, eqb, List, [], ◌∷◌, length, get_or, take, drop, sym, ap, ◌∙◌, subst, one-add, arith}
+use Rattle.std.proofs.Common.{◌≡◌, ℕ, ◌+◌, ◌<◌, ◌≤◌, true, false, eqb, List, [], ◌∷◌, length, get_or, take, drop, sym, ap, ◌∙◌, subst, one-add, arith}
 use Rattle.std.specs.Str.Parse.{AllDigits}
 use Rattle.std.proofs.lemmas.Str.{digit_value_digit}
 use Rattle.std.proofs.lemmas.Bool.Decides.{nat_tests}
 use Rattle.std.proofs.lemmas.Bool.{eqb-true, leb-true, and_parts, cond_both, cond-true, true≢false}
-use Rattle.std.proofs.lemmas.List.{length-drop, get_or-drop, take_rest, drop_more}
+use Rattle.std.proofs.lemmas.List.{length-drop, get_or-drop, drop_more}
 use Rattle.std.proofs.lemmas.List.Sums.{prefix_len_stops}
 use Rattle.rule.specs.declared.tokens.Class.{Class}
 use Rattle.rule.specs.declared.tokens.Class.TheVariants.{Blank, Name, Open, Close, Colon, Comma, Table, Variable, Digit, Other}
@@ -77,10 +77,6 @@ run_stops c text from r h l e =
     let stops = prefix_len_stops (λ b. is (class b) c) xs 0 (omega arith) in
     let same : class (get_or xs (run_of c xs) 0) ≡ c = ap (λ i. class (get_or xs i 0)) (sym h) ∙ (ap class (get_or-drop from text r 0) ∙ e) in
     true≢false (sym (same_is _ c same) ∙ stops)
-
--- the first byte from a place on
-pub first_byte : (text : List ℕ) (at : ℕ) → at < length text → take 1 (take (length text - at) (drop at text)) ≡ get_or text at 0 ∷ []
-first_byte text at l = ap (take 1) (take_rest text at ∙ drop_more text at 0 l)
 
 -- digits are a numeral's
 pub run_digits : (xs : List ℕ) → AllDigits 10 (take (run_of Digit xs) xs)

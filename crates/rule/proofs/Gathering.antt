@@ -14,7 +14,7 @@ use Rattle.rule.specs.declared.reader.Reader.{Reader}
 use Rattle.rule.specs.declared.refusal.Refusal.{Refusal}
 use Rattle.rule.specs.Tokens.{place_of}
 use Rattle.rule.specs.Lexing.{past_spaces, Moved, Lexed, Found}
-use Rattle.rule.specs.Parsing.{answer_of, Further, ReadsTerm, TermRead, ReadsAtom, AtomRead}
+use Rattle.rule.specs.Parsing.{answer_of, Further, ReadsTerm, ReadsAtom, AtomRead}
 use Rattle.rule.specs.Kept.{empty, with_term, kept, lettered, fits}
 use Rattle.rule.specs.Rules.{atoms_of}
 use Rattle.rule.specs.Scanning.{State, scan}
@@ -88,9 +88,6 @@ module _ {before : Reader} {s : Bor (List ℕ)} {at : ℕ} {mid : Reader} (h : L
   not_begun e f d = past_letter d ∙ opened (Err e) mid f d
 
 module _ {before : Reader} {a : Atom} {now : Reader} {ts : List Term} (g : Begun before a now ts) where
-  pub no_next : (p : Refusal) → TermRead now (Err p) now → AtomRead before (Err p) now
-  no_next p f d = g.answers d ∙ f d a.table ts
-
   module _ {t : Term} {mid : Reader} (f : ReadsTerm now t mid) where
     abbrev more : Atom
     more = with_term a t

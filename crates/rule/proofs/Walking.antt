@@ -1,9 +1,11 @@
 -- The reader's answer from a place of a text on: over spaces, marks, digits and tokens.
-use Rattle.std.proofs.Common.{◌≡◌, ℕ, zero, suc, ◌+◌, ◌<◌, Bool, true, false, cond, ◌&&◌, leb, eqb, List, [], ◌∷◌, ◌++◌, length, get_or, take, drop, Some, None, Ok, Err, Result, sym, refl, ap, ◌∙◌, inl, inr, add-zero, one-add, arith}
+use Rattle.std.proofs.Common.{◌≡◌, ℕ, zero, suc, ◌+◌, ◌-◌, ◌*◌, ◌<◌, ◌≤◌, Bool, true, false, cond, ◌&&◌, leb, eqb, List, [], ◌∷◌, ◌++◌, length, get_or, take, drop, Some, None, Ok, Err, Result, sym, refl, ap, ◌∙◌, inl, inr, add-zero, one-add, arith}
 use Rattle.std.specs.Str.Parse.{AllDigits, digits_value}
-use Rattle.std.proofs.lemmas.List.{drop-drop, drop_more, drop_all, take_more, take_all, length-take-le}
+use Rattle.std.proofs.lemmas.List.{drop-drop, drop_more, drop_all, take_more, length-take-le}
+use Rattle.std.proofs.lemmas.Int.Digits.{digits_value_more}
 use Rattle.std.proofs.lemmas.Str.Parse.{digit_at}
-use Rattle.std.proofs.lemmas.Bool.{cond_both, eqb-true, and_parts, true≢false}
+use Rattle.std.proofs.lemmas.Str.{digit_value_digit}
+use Rattle.std.proofs.lemmas.Bool.{cond_both, eqb-true, leb-true, and_parts, true≢false}
 use Rattle.rule.specs.declared.tokens.Class.{Class}
 use Rattle.rule.specs.declared.tokens.Class.TheVariants.{Blank, Name, Open, Close, Colon, Comma, Table, Variable, Digit}
 use Rattle.rule.specs.declared.tokens.Token.{Token}
@@ -125,18 +127,10 @@ pub record Marked (before : Reader) (i : ℕ) (now : Reader) : Type 0 where
   pub further : Further before i now
   pub answers : answer_of before State.start ≡ answer_of now (state_at i)
 
-pub marked_none : (r : Reader) → Marked r 0 r
-marked_none r = record { further = record { text = refl; place = omega arith }; answers = refl }
-
 -- the dash, right behind the colon
 past_dash : (xs : List ℕ) (n : ℕ) → starts_with eqb xs (45 ∷ []) ≡ true → scan State.colon n xs ≡ scan (State.atom []) (n + 1) (drop 1 xs)
 past_dash [] n e = absurd (true≢false (sym e))
 past_dash (b ∷ xs) n e = ap (λ c. onward (next State.colon (class c) c) n xs) (sym (eqb-true 45 b (and_parts (eqb 45 b) true e).0))
-
-no_dash : (xs : List ℕ) (n : ℕ) → starts_with eqb xs (45 ∷ []) ≡ false → scan State.colon n xs ≡ Err n
-no_dash [] n e = refl
-no_dash (b ∷ xs) n e =
-    cond_both (eqb b 45) _ _ (λ o. onward o n xs ≡ Err n) (λ t. absurd (true≢false (ap (λ x. eqb 45 x && true) (sym (eqb-true b 45 t)) ∙ e))) (λ _. refl)
 
 module _ {before : Reader} {i : ℕ} {now : Reader} (m : Marked before i now) (l : i < 4) where
   pub marked_more : (after : Reader) → Found now (get_or marks i Blank) (Ok tt) after → Marked before (i + 1) after
@@ -159,52 +153,45 @@ module _ {before now : Reader} (m : Marked before 4 now) where
         ∙ (ap (scan (State.atom []) (now.at + 1)) (drop-drop 1 now.at now.text.now) ∙ moved now (now.at + 1) after f (State.atom []))),
   )
 
-  pub no_head : starts_with eqb (drop now.at now.text.now) (45 ∷ []) ≡ false → HeadRead before (Err (record { at = now.at })) now
-  no_head e = m.answers ∙ no_dash (drop now.at now.text.now) now.at e
+-- after the first i digits of a constant, with their number
+pub record Sofar (ds : List ℕ) (at i number : ℕ) : Type 0 where
+  pub value : number ≡ digits_value 10 (take i ds)
+  pub small : number ≤ 4294967295
+  pub walks : (d : List Said) (k : ℕ) (ts : List Term) (rest : List ℕ)
+      → scan (State.digits d k ts []) at (ds ++ rest) ≡ scan (State.digits d k ts (take i ds)) (at + i) (drop i ds ++ rest)
 
--- after the first i digits of a constant
-abbrev pub Sofar : List ℕ → ℕ → ℕ → Type 0
-Sofar ds at i = (d : List Said) (k : ℕ) (ts : List Term) (rest : List ℕ)
-    → scan (State.digits d k ts []) at (ds ++ rest) ≡ scan (State.digits d k ts (take i ds)) (at + i) (drop i ds ++ rest)
-
-module _ (ds : List ℕ) (at i : ℕ) (g : AllDigits 10 ds) (l : i < length ds) (so : Sofar ds at i) where
-  sofar_step : (d : List Said) (k : ℕ) (ts : List Term) (rest : List ℕ)
-      → scan (State.digits d k ts []) at (ds ++ rest) ≡ onward (grown d k ts (take (i + 1) ds)) (at + i) (drop (i + 1) ds ++ rest)
-  sofar_step d k ts rest =
-      let b = get_or ds i 0 in
-      let q = State.digits d k ts (take i ds) in
-      let h = digit_at ds i g l in
-      so d k ts rest
-      ∙ (ap (λ s. scan q (at + i) (s ++ rest)) (drop_more ds i 0 l)
-      ∙ (ap (λ c. onward (next q c b) (at + i) (drop (i + 1) ds ++ rest)) (digit_class b h.0 h.1)
-      ∙ ap (λ s. onward (grown d k ts s) (at + i) (drop (i + 1) ds ++ rest)) (sym (take_more ds i 0 l))))
+-- one digit more
+module _ {ds : List ℕ} {at i number : ℕ} (so : Sofar ds at i number) (g : AllDigits 10 ds) (l : i < length ds) (longer : ℕ) (is : longer ≡ number * 10 + (get_or ds i 0 - 48)) where
+  longer_value : digits_value 10 (take (i + 1) ds) ≡ longer
+  longer_value = omega (arith, so.value, digits_value_more 10 ds i l, digit_value_digit (get_or ds i 0) (digit_at ds i g l))
 
   abbrev lawful : Bool
-  lawful = leb (i + 1) 10 && leb (digits_value 10 (take (i + 1) ds)) 4294967295
+  lawful = leb (i + 1) 10 && leb longer 4294967295
 
-  sofar_test : (t : Bool) → lawful ≡ t → (d : List Said) (k : ℕ) (ts : List Term) (rest : List ℕ)
+  walks_more : (t : Bool) → t ≡ lawful → (d : List Said) (k : ℕ) (ts : List Term) (rest : List ℕ)
       → scan (State.digits d k ts []) at (ds ++ rest) ≡ onward (cond t (Some (State.digits d k ts (take (i + 1) ds))) None) (at + i) (drop (i + 1) ds ++ rest)
-  sofar_test t e d k ts rest =
-      let n : length (take (i + 1) ds) ≡ i + 1 = length-take-le (i + 1) ds (omega arith) in
-      sofar_step d k ts rest
-      ∙ ap (λ x. onward (cond x (Some (State.digits d k ts (take (i + 1) ds))) None) (at + i) (drop (i + 1) ds ++ rest))
-      (ap (λ m. leb m 10 && leb (digits_value 10 (take (i + 1) ds)) 4294967295) n ∙ e)
+  walks_more t e d k ts rest =
+      let b = get_or ds i 0 in
+      let more = take (i + 1) ds in
+      let behind = drop (i + 1) ds ++ rest in
+      let q = State.digits d k ts (take i ds) in
+      let h = digit_at ds i g l in
+      let n : length more ≡ i + 1 = length-take-le (i + 1) ds (omega arith) in
+      so.walks d k ts rest
+      ∙ (ap (λ s. scan q (at + i) (s ++ rest)) (drop_more ds i 0 l)
+      ∙ (ap (λ c. onward (next q c b) (at + i) behind) (digit_class b h.0 h.1)
+      ∙ (ap (λ s. onward (grown d k ts s) (at + i) behind) (sym (take_more ds i 0 l))
+      ∙ ap (λ x. onward (cond x (Some (State.digits d k ts more)) None) (at + i) behind) (rw (n, longer_value) (sym e)))))
 
-  pub sofar_more : lawful ≡ true → Sofar ds at (i + 1)
-  sofar_more e d k ts rest =
-      let p : at + i + 1 ≡ at + (i + 1) = omega arith in
-      sofar_test true e d k ts rest ∙ ap (λ m. scan (State.digits d k ts (take (i + 1) ds)) m (drop (i + 1) ds ++ rest)) p
+  pub sofar_more : true ≡ lawful → Sofar ds at (i + 1) longer
+  sofar_more e =
+      record {
+        value = sym longer_value;
+        small = leb-true longer 4294967295 (and_parts (leb (i + 1) 10) (leb longer 4294967295) (sym e)).1;
+        walks = λ d k ts rest.
+            let p : at + i + 1 ≡ at + (i + 1) = omega arith in
+            walks_more true e d k ts rest ∙ ap (λ m. scan (State.digits d k ts (take (i + 1) ds)) m (drop (i + 1) ds ++ rest)) p;
+      }
 
-  pub sofar_stop : lawful ≡ false → NumberRead ds at (Err (record { at = at + i }))
-  sofar_stop e = sofar_test false e
-
-pub sofar_all : (ds : List ℕ) (at i n : ℕ) → i ≡ length ds → n ≡ digits_value 10 (take i ds) → Sofar ds at i → NumberRead ds at (Ok n)
-sofar_all ds at i n e v so =
-    let t = take_all i ds (omega arith) in (
-      v ∙ ap (digits_value 10) t,
-      λ d k ts rest.
-          so d k ts rest
-          ∙ (ap (λ s. scan (State.digits d k ts s) (at + i) (drop i ds ++ rest)) t
-          ∙ (ap (λ s. scan (State.digits d k ts ds) (at + i) (s ++ rest)) (drop_all i ds (omega arith))
-          ∙ ap (λ j. scan (State.digits d k ts ds) (at + j) rest) e)),
-    )
+  pub sofar_stop : false ≡ lawful → NumberRead ds at (Err (record { at = at + i }))
+  sofar_stop e = walks_more false e
