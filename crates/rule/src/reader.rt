@@ -41,11 +41,12 @@ impl<'a> Reader<'a> {
         ensures { Found self.old class result self.new }
     {
         let at = self.past_spaces();
-        if at < self.text.len() && Class::from(self.text[at]) == class {
-            self.at = at + 1;
-            Ok(())
-        } else {
-            Err(Refusal { at })
+        match self.text.get(at) {
+            Some(byte) if Class::from(*byte) == class => {
+                self.at = at + 1;
+                Ok(())
+            }
+            _ => Err(Refusal { at }),
         }
     }
 
@@ -54,14 +55,14 @@ impl<'a> Reader<'a> {
         ensures { Begins self.now result }
     {
         let at = self.past_spaces();
-        if at == self.text.len() {
+        let Some(byte) = self.text.get(at) else {
             return Token::End(at);
-        }
+        };
         let rest = &self.text[at..];
-        match Class::from(self.text[at]) {
-            Class::Table => Token::Table(&rest[0..1], at),
-            Class::Variable => Token::Variable(&rest[0..1], at),
-            Class::Digit => Token::Constant(&rest[0..run_of(rest, Class::Digit)], at),
+        match Class::from(*byte) {
+            Class::Table => Token::Table(&rest[..1], at),
+            Class::Variable => Token::Variable(&rest[..1], at),
+            Class::Digit => Token::Constant(&rest[..run_of(rest, Class::Digit)], at),
             Class::Open => Token::Open(at),
             Class::Close => Token::Close(at),
             Class::Comma => Token::Comma(at),
