@@ -10,7 +10,7 @@ use Rattle.rule.specs.Kept.{kept}
 use Rattle.rule.specs.Rules.{atoms_of, Refused, Answered}
 use Rattle.rule.specs.Scanning.{State, next, ended, finish, scan, onward}
 use Rattle.rule.proofs.Complete.{Leads, complete}
-use Rattle.rule.proofs.Sound.{err_not_ok, sound}
+use Rattle.rule.proofs.Sound.{sound}
 
 -- Every state goes on to the end of some lawful text.
 abbrev Completes : State → Type 0
@@ -38,7 +38,7 @@ record Stuck (q : State) (raw : List ℕ) (i : ℕ) : Type 0 where
   dies : i < length raw → (rest : List ℕ) (m : ℕ) → (p : ℕ) × (scan q m (take (suc i) raw ++ rest) ≡ Err p)
 
 stuck_end : (o : Option (List Said)) (n p : ℕ) → finish o n ≡ Err p → p ≡ n
-stuck_end (Some d) n p e = absurd (err_not_ok p d (sym e))
+stuck_end (Some d) n p e = cc
 stuck_end None n p e = cc
 
 -- a step and then stuck, or stuck at once
@@ -82,7 +82,7 @@ stuck [] q n p e =
 stuck (b ∷ raw) q n p e = stuck_step q b raw n p (next q (class b) b) refl (λ r. stuck raw r (n + 1) p) e
 
 unlawful : (raw : List ℕ) (p : ℕ) → scan State.start 0 raw ≡ Err p → Lawful raw → ⊥
-unlawful raw p e l = err_not_ok p l.0 (sym e ∙ complete raw l.0 l.1 0)
+unlawful raw p e l = let c = complete raw l.0 l.1 0 in cc
 
 breaks : (raw : List ℕ) (p : ℕ) → scan State.start 0 raw ≡ Err p → BreaksAt raw p
 breaks raw p e =
@@ -143,8 +143,8 @@ some_atom raw (a ∷ all) h = omega arith
 pub err_answered : (raw : List ℕ) (at : ℕ) → Refused raw at → Answered raw (Err (record { at = at }))
 err_answered raw at r =
     record {
-      says = λ rule e. absurd (err_not_ok (record { at = at }) rule e);
-      ok = (λ h. absurd (err_not_ok (record { at = at }) h.0 h.1), λ h. absurd (not_both raw at h.0 h.1 r));
+      says = λ rule e. cc;
+      ok = (λ h. (cc), λ h. absurd (not_both raw at h.0 h.1 r));
       err = λ i. (
         λ e. let same : ◌≡◌ {A = Refusal} (record { at = at }) (record { at = i }) = cc in subst (λ f. Refused raw f.at) same r,
         λ s. ap (λ j. Err (record { at = j })) (one_place raw at i r s),
@@ -159,7 +159,7 @@ ok_answered raw rule all l e m =
     record {
       says = λ other f. let same : rule ≡ other = cc in (all, w, subst (λ r. atoms_of r ≡ map kept all) same m);
       ok = (λ _. (l, (all, w)), λ _. (rule, refl));
-      err = λ i. (λ f. absurd (err_not_ok (record { at = i }) rule (sym f)), λ r. absurd (not_both raw i l (all, w) r));
+      err = λ i. (λ f. (cc), λ r. absurd (not_both raw i l (all, w) r));
       one = one_reading raw;
       some = some_atom raw;
     }
