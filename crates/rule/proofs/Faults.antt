@@ -119,8 +119,8 @@ not_later raw i j (c, inr b) (d, inr e) h = omega arith
 
 pub one_place : (raw : List ℕ) (i j : ℕ) → Refused raw i → Refused raw j → i ≡ j
 one_place raw i j (inl a) (inl b) = omega arith
-one_place raw i j (inl a) (inr b) = absurd (let z : ⊥ = omega arith in z)
-one_place raw i j (inr a) (inl b) = absurd (let z : ⊥ = omega arith in z)
+one_place raw i j (inl a) (inr b) = omega arith
+one_place raw i j (inr a) (inl b) = omega arith
 one_place raw i j (inr a) (inr b) =
     elim (cases_order i j) [
       | inl e ↦ e

@@ -1,7 +1,8 @@
 -- Atoms, token by token, and the atoms gathered.
-use Rattle.std.proofs.Common.{◌≡◌, ℕ, zero, suc, ◌+◌, ◌-◌, ◌*◌, ◌≤◌, Bool, true, false, cond, ltb, List, [], ◌∷◌, ◌++◌, map, length, get_or, set, Some, Ok, Err, Result, sym, refl, ap, ◌∙◌, arith, length-append, Bor}
+use Rattle.std.proofs.Common.{◌≡◌, ℕ, zero, suc, ◌+◌, ◌-◌, ◌*◌, ◌≤◌, Bool, true, false, ltb, List, [], ◌∷◌, ◌++◌, map, length, get_or, set, Some, Ok, Err, Result, sym, refl, ap, ◌∙◌, arith, length-append, Bor}
 use Rattle.std.proofs.lemmas.List.{map_push}
-use Rattle.std.proofs.lemmas.Bool.{le-ltb, lt-ltb, cond_both, and_from, and_parts}
+use Rattle.std.proofs.lemmas.Bool.Decides.{nat_tests}
+use Rattle.std.proofs.lemmas.Bool.{le-ltb, lt-ltb, and_from}
 use Rattle.rule.specs.declared.tokens.Class.TheVariants.{Open, Close, Comma, Table}
 use Rattle.rule.specs.declared.tokens.Token.{Token}
 use Rattle.rule.specs.declared.tokens.Token.TheVariants as tokens
@@ -35,20 +36,15 @@ kept_more k (a ∷ b ∷ c ∷ e ∷ more) t =
     let four = a ∷ b ∷ c ∷ e ∷ [] in
     let n : length ts + 1 ≡ length (ts ++ (t ∷ [])) = omega (arith, length-append ts (t ∷ [])) in
     let s : ltb (length ts) 4 ≡ false = le-ltb (length ts) 4 (omega arith) in
-    ap (λ x. record { table = k; terms = cond x (set four (length ts) t) four; count = length ts + 1 }) s
-    ∙ ap (λ m. record { table = k; terms = four; count = m }) n
+    rw (s, n)
 
 all_set : {X : Type 0} (p : X → Bool) (xs : List X) (i : ℕ) (x : X) → p x ≡ true → list_all p xs ≡ true → list_all p (set xs i x) ≡ true
 all_set p [] i x h a = refl
-all_set p (y ∷ ys) zero x h a = and_from (p x) (list_all p ys) h (and_parts (p y) (list_all p ys) a).1
-all_set p (y ∷ ys) (suc i) x h a = let b = and_parts (p y) (list_all p ys) a in and_from (p y) (list_all p (set ys i x)) b.0 (all_set p ys i x h b.1)
+all_set p (y ∷ ys) zero x h a = grind (arith, nat_tests)
+all_set p (y ∷ ys) (suc i) x h a = grind (arith, nat_tests, all_set p ys i x h)
 
 fits_more : (a : Atom) (t : Term) → fits a ≡ true → lettered t ≡ true → fits (with_term a t) ≡ true
-fits_more a t w l =
-    let b = and_parts (ltb a.table 8) (list_all lettered a.terms) w in
-    and_from (ltb a.table 8) (list_all lettered (with_term a t).terms) b.0
-    (cond_both (ltb a.count 4) (set a.terms a.count t) a.terms (λ l. list_all lettered l ≡ true)
-    (λ _. all_set lettered a.terms a.count t l b.1) (λ _. b.1))
+fits_more a t w l = grind (arith, nat_tests, all_set lettered a.terms a.count t l)
 
 -- the atom begun at a reader, before a further term
 pub record Begun (before : Reader) (a : Atom) (after : Reader) (ts : List Term) : Type 0 where

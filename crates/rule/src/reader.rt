@@ -30,7 +30,7 @@ impl<'a> Reader<'a> {
     // The first place from here on that holds no space.
     fn past_spaces(&self) -> usize
         ensures is { result ≡ past_spaces self.now }
-        ensures ahead { (self.now.at ≤ result) × (result ≤ length self.now.text.now) }
+        ensures inside { result ≤ length self.now.text.now }
         ensures stops { result < length self.now.text.now → class (slice_index self.now.text.now result) ≢ Class.Blank }
     {
         self.at + run_of(&self.text[self.at..], Class::Blank)
