@@ -4,7 +4,7 @@ ghost use Rattle.std.specs.Prelude.{Some, ◌++◌, codes, decimal};
 use std::error::Error;
 use std::fmt;
 
-/// A text is no lawful rule text of at most 512 bytes: the place where it is refused.
+/// The place where a text is refused that is no rule text of at most 512 bytes.
 #[derive(Clone, Copy, PartialEq, Eq, Debug)]
 pub struct Refusal {
     pub at: usize,
