@@ -30,16 +30,11 @@ Rests q = next q Blank 32 ≡ Some q
 skip_list : (q : State) → Rests q → (xs : List ℕ) (n : ℕ) → scan q n xs ≡ scan q (n + run_of Blank xs) (drop (run_of Blank xs) xs)
 skip_list q r [] n = ap (λ m. scan q m []) (sym (add-zero n))
 skip_list q r (b ∷ s) n =
-    let P : ℕ → Type 0 = λ k. scan q n (b ∷ s) ≡ scan q (n + k) (drop k (b ∷ s)) in
     let m = run_of Blank s in
     let p : n + 1 + m ≡ n + (1 + m) = omega arith in
-    cond_both (is (class b) Blank) (1 + m) 0 P
-    (λ e.
-    ap (λ x. scan q n (x ∷ s)) (kind_of Blank b e)
-    ∙ (ap (λ o. onward o n s) r
-    ∙ (skip_list q r s (n + 1)
-    ∙ (ap (λ j. scan q j (drop m s)) p ∙ ap (λ j. scan q (n + (1 + m)) (drop j (b ∷ s))) (sym (one-add m))))))
-    (λ e. ap (λ j. scan q j (b ∷ s)) (sym (add-zero n)))
+    cond_both (is (class b) Blank) (1 + m) 0 (λ k. scan q n (b ∷ s) ≡ scan q (n + k) (drop k (b ∷ s)))
+    (λ e. rw (kind_of Blank b e, r, one-add) (skip_list q r s (n + 1) ∙ ap (λ j. scan q j (drop m s)) (p ∙ ap (λ k. n + k) (one-add m))))
+    (λ e. rw add-zero)
 
 pub at_byte : (text : List ℕ) (q : State) (c : Class) (at : ℕ) → at < length text → class (get_or text at 0) ≡ c
     → answer text q at ≡ onward (next q c (get_or text at 0)) at (drop (at + 1) text)
