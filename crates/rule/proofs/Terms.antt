@@ -1,7 +1,7 @@
 -- Terms, token by token.
-use Rattle.std.proofs.Common.{◌≡◌, ℕ, ◌+◌, ◌-◌, ◌<◌, ◌≤◌, cond, List, [], ◌∷◌, ◌++◌, length, get_or, drop, Some, Ok, Err, sym, refl, ap, ◌∙◌, subst, inl, inr, arith, Bor}
+use Rattle.std.proofs.Common.{◌≡◌, ℕ, ◌+◌, ◌-◌, ◌<◌, ◌≤◌, List, [], ◌∷◌, ◌++◌, length, get_or, drop, Some, Ok, Err, sym, refl, ap, ◌∙◌, subst, inl, inr, arith, Bor}
 use Rattle.std.specs.Str.Parse.{AllDigits, digits_value}
-use Rattle.std.proofs.lemmas.List.{drop-drop, drop_all, length-drop, take-append-drop}
+use Rattle.std.proofs.lemmas.List.{drop-drop, drop_more, drop_all, length-drop, take-append-drop}
 use Rattle.std.proofs.lemmas.List.Sums.{prefix_len-le-length}
 use Rattle.std.proofs.lemmas.List.Folds.{length-prefix_len}
 use Rattle.std.proofs.lemmas.Bool.{cases_lt, lt-ltb}
@@ -18,7 +18,7 @@ use Rattle.rule.specs.Tokens.{place_of}
 use Rattle.rule.specs.Lexing.{Lexed}
 use Rattle.rule.specs.Numbers.{NumberRead}
 use Rattle.rule.specs.Parsing.{answer_of, ReadsTerm, TermRead}
-use Rattle.rule.specs.Scanning.{State, grown, behind_term, scan, onward, answer}
+use Rattle.rule.specs.Scanning.{State, scan, answer}
 use Rattle.rule.proofs.Classing.{kind_at, other_is, run_some, run_digits, run_stops}
 use Rattle.rule.proofs.Walking.{at_byte, stands, steps, moved, Refuses, refused}
 
@@ -41,16 +41,9 @@ variable_read {before} {s} {at} {after} h =
 digits_stop : (text : List ℕ) (at : ℕ) → (at < length text → class (get_or text at 0) ≡ Digit → ⊥) → (d : List Said) (k : ℕ) (ts : List Term) (ds : List ℕ)
     → answer text (State.digits d k ts ds) at ≡ answer text (State.said d k (ts ++ (terms.Constant (digits_value 10 ds) ∷ []))) at
 digits_stop text at other d k ts ds =
-    let q = State.digits d k ts ds in
-    let p = State.said d k (ts ++ (terms.Constant (digits_value 10 ds) ∷ [])) in
-    let b = get_or text at 0 in
-    let c = class b in
     elim (cases_lt at (length text)) [
-      | inl l ↦
-          at_byte text q c at l refl
-          ∙ (ap (λ t. onward (cond t (grown d k ts (ds ++ (b ∷ []))) (behind_term d k (ts ++ (terms.Constant (digits_value 10 ds) ∷ [])) c)) at (drop (at + 1) text)) (other_is c Digit (other l))
-          ∙ sym (at_byte text p c at l refl))
-      | inr g ↦ let e = drop_all at text g in ap (scan q at) e ∙ sym (ap (scan p at) e)
+      | inl l ↦ rw (drop_more text at 0 l, other_is (class (get_or text at 0)) Digit (other l))
+      | inr g ↦ rw (drop_all at text g)
     ]
 
 module _ {before : Reader} {s : Bor (List ℕ)} {at : ℕ} {after : Reader} (h : Lexed before (tokens.Constant s at) after) where
@@ -75,9 +68,7 @@ module _ {before : Reader} {s : Bor (List ℕ)} {at : ℕ} {after : Reader} (h :
   begun : (d : List Said) (k : ℕ) (ts : List Term) → answer_of before (State.term d k ts) ≡ scan (State.digits d k ts []) at (s.now ++ rest)
   begun d k ts =
       let stand = h.begins.0 in
-      let whole : drop at text ≡ s.now ++ rest =
-      sym (take-append-drop run (drop at text))
-      ∙ (ap (λ l. l ++ drop run (drop at text)) (sym h.begins.1) ∙ ap (λ l. s.now ++ l) (drop-drop run at text ∙ ap (λ m. drop (at + m) text) (sym long))) in
+      let whole : drop at text ≡ s.now ++ rest = rw (long, h.begins.1, ← drop-drop run at text) (sym (take-append-drop run (drop at text))) in
       stands before (State.term d k ts) refl Digit at stand
       ∙ (sym (at_byte text (State.digits d k ts []) Digit at stand.inside stand.is) ∙ ap (scan (State.digits d k ts []) at) whole)
 

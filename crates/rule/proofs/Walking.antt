@@ -20,7 +20,7 @@ use Rattle.std.specs.List.{starts_with}
 use Rattle.rule.specs.Parsing.{answer_of, Further, HeadRead}
 use Rattle.rule.specs.Grammar.{Said}
 use Rattle.rule.specs.declared.rules.Term.{Term}
-use Rattle.rule.specs.Scanning.{State, only, grown, next, ended, finish, scan, onward, answer}
+use Rattle.rule.specs.Scanning.{State, only, next, ended, finish, scan, onward, answer}
 use Rattle.rule.proofs.Classing.{kind_of, other_is, digit_class}
 
 -- a state that spaces leave as it is
@@ -166,17 +166,9 @@ module _ {ds : List ℕ} {at i number : ℕ} (so : Sofar ds at i number) (g : Al
   walks_more : (t : Bool) → t ≡ lawful → (d : List Said) (k : ℕ) (ts : List Term) (rest : List ℕ)
       → scan (State.digits d k ts []) at (ds ++ rest) ≡ onward (cond t (Some (State.digits d k ts (take (i + 1) ds))) None) (at + i) (drop (i + 1) ds ++ rest)
   walks_more t e d k ts rest =
-      let b = get_or ds i 0 in
-      let more = take (i + 1) ds in
-      let behind = drop (i + 1) ds ++ rest in
-      let q = State.digits d k ts (take i ds) in
       let h = digit_at ds i g l in
-      let n : length more ≡ i + 1 = length-take-le (i + 1) ds (omega arith) in
-      so.walks d k ts rest
-      ∙ (ap (λ s. scan q (at + i) (s ++ rest)) (drop_more ds i 0 l)
-      ∙ (ap (λ c. onward (next q c b) (at + i) behind) (digit_class b h.0 h.1)
-      ∙ (ap (λ s. onward (grown d k ts s) (at + i) behind) (sym (take_more ds i 0 l))
-      ∙ ap (λ x. onward (cond x (Some (State.digits d k ts more)) None) (at + i) behind) (rw (n, longer_value) (sym e)))))
+      let n : length (take (i + 1) ds) ≡ i + 1 = length-take-le (i + 1) ds (omega arith) in
+      so.walks d k ts rest ∙ rw (drop_more ds i 0 l, digit_class (get_or ds i 0) h.0 h.1, ← take_more ds i 0 l, n, longer_value, ← e)
 
   pub sofar_more : true ≡ lawful → Sofar ds at (i + 1) longer
   sofar_more e =
