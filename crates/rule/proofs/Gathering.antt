@@ -1,5 +1,5 @@
 -- Atoms, token by token, and the atoms gathered.
-use Rattle.std.proofs.Common.{◌≡◌, ℕ, zero, suc, ◌+◌, ◌-◌, ◌*◌, ◌≤◌, Bool, true, false, ltb, List, [], ◌∷◌, ◌++◌, map, length, get_or, set, Some, Ok, Err, Result, sym, refl, ap, ◌∙◌, arith, length-append, Bor}
+use Rattle.std.proofs.Common.{◌≡◌, ℕ, zero, suc, ◌+◌, ◌-◌, ◌*◌, ◌≤◌, Bool, true, false, ltb, List, [], ◌∷◌, ◌++◌, map, length, get_or, set, Ok, Err, Result, sym, refl, ap, ◌∙◌, arith, length-append, Bor}
 use Rattle.std.proofs.lemmas.List.{map_push}
 use Rattle.std.proofs.lemmas.Bool.Decides.{nat_tests}
 use Rattle.std.proofs.lemmas.Bool.{le-ltb, lt-ltb, and_from}
@@ -62,7 +62,7 @@ module _ {before : Reader} {s : Bor (List ℕ)} {at : ℕ} {mid : Reader} (h : L
 
   past_letter : (d : List Said) → answer_of before (State.atom d) ≡ answer_of mid (State.table d number)
   past_letter d =
-      steps before (State.atom d) refl (State.table d number) Table at mid h.begins.0 h.moved (ap (λ b. Some (State.table d (b - 65))) (sym first))
+      rw first (steps before (State.atom d) refl (State.table d (get_or before.text.now at 0 - 65)) Table at mid h.begins.0 h.moved refl)
 
   opened : (r : Result (Unit {0}) Refusal) (after : Reader) → Found mid Open r after → (d : List Said)
       → Passes mid (State.table d number) (State.term d number []) r after

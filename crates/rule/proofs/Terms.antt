@@ -1,5 +1,5 @@
 -- Terms, token by token.
-use Rattle.std.proofs.Common.{◌≡◌, ℕ, ◌+◌, ◌-◌, ◌<◌, ◌≤◌, List, [], ◌∷◌, ◌++◌, length, get_or, drop, Some, Ok, Err, sym, refl, ap, ◌∙◌, subst, inl, inr, arith, Bor}
+use Rattle.std.proofs.Common.{◌≡◌, ℕ, ◌+◌, ◌-◌, ◌<◌, ◌≤◌, List, [], ◌∷◌, ◌++◌, length, get_or, drop, Ok, Err, sym, refl, ap, ◌∙◌, subst, inl, inr, arith, Bor}
 use Rattle.std.specs.Str.Parse.{AllDigits, digits_value}
 use Rattle.std.proofs.lemmas.List.{drop-drop, drop_more, drop_all, length-drop, take-append-drop}
 use Rattle.std.proofs.lemmas.List.Sums.{prefix_len-le-length}
@@ -33,8 +33,7 @@ variable_read {before} {s} {at} {after} h =
       further = record { text = h.moved.text; place = omega (arith, stand.here, h.moved.place) };
       fit = lt-ltb (get_or s.now 0 0 - 97) 26 (omega arith);
       answers = λ d k ts.
-          let p = State.said d k (ts ++ (terms.Variable (get_or s.now 0 0 - 97) ∷ [])) in
-          steps before (State.term d k ts) refl p Variable at after stand h.moved (ap (λ x. Some (State.said d k (ts ++ (terms.Variable (x - 97) ∷ [])))) (sym first));
+          rw first (steps before (State.term d k ts) refl (State.said d k (ts ++ (terms.Variable (b - 97) ∷ []))) Variable at after stand h.moved refl);
     }
 
 -- behind its last digit a constant has ended
@@ -82,11 +81,10 @@ module _ {before : Reader} {s : Bor (List ℕ)} {at : ℕ} {after : Reader} (h :
         further = record { text = h.moved.text; place = omega (arith, h.begins.0.here, h.moved.place, long, run_some Digit text at h.begins.0.inside h.begins.0.is) };
         fit = refl;
         answers = λ d k ts.
-            begun d k ts
+            rw f.0 (begun d k ts
             ∙ (f.1 d k ts rest
             ∙ (digits_stop text end (run_stops Digit text at (length s.now) long) d k ts s.now
-            ∙ (ap (λ v. answer text (State.said d k (ts ++ (terms.Constant v ∷ []))) end) (sym f.0)
-            ∙ moved before end after h.moved (State.said d k (ts ++ (terms.Constant n ∷ []))))));
+            ∙ moved before end after h.moved (State.said d k (ts ++ (terms.Constant (digits_value 10 s.now) ∷ []))))));
       }
 
 -- a token that is no term

@@ -38,7 +38,7 @@ skip_list q r (b ∷ s) n =
 
 pub at_byte : (text : List ℕ) (q : State) (c : Class) (at : ℕ) → at < length text → class (get_or text at 0) ≡ c
     → answer text q at ≡ onward (next q c (get_or text at 0)) at (drop (at + 1) text)
-at_byte text q c at l e = ap (scan q at) (drop_more text at 0 l) ∙ ap (λ k. onward (next q k (get_or text at 0)) at (drop (at + 1) text)) e
+at_byte text q c at l e = rw (drop_more text at 0 l, e)
 
 -- a token that the state does not expect
 abbrev pub Refuses : State → Token → Type 0
@@ -59,24 +59,23 @@ module _ (r : Reader) (q : State) (rests : Rests q) where
   skipped : (at : ℕ) → at ≡ past_spaces r → answer_of r q ≡ answer r.text.now q at
   skipped at e =
       let text = r.text.now in
-      let k = run_of Blank (drop r.at text) in
-      skip_list q rests (drop r.at text) r.at ∙ (ap (scan q (r.at + k)) (drop-drop k r.at text) ∙ ap (answer text q) (sym e))
+      rw (e, ← drop-drop (run_of Blank (drop r.at text)) r.at text) (skip_list q rests (drop r.at text) r.at)
 
   -- the step at a token's first byte
   pub stands : (c : Class) (at : ℕ) → Stands r c at → answer_of r q ≡ onward (next q c (get_or r.text.now at 0)) at (drop (at + 1) r.text.now)
   stands c at h = skipped at h.here ∙ at_byte r.text.now q c at h.inside h.is
 
   pub ends : (at : ℕ) → Ends r at → answer_of r q ≡ finish (ended q) at
-  ends at h = skipped at h.here ∙ ap (scan q at) (drop_all at r.text.now (omega (arith, h.last)))
+  ends at h = skipped at h.here ∙ rw (drop_all at r.text.now (omega (arith, h.last)))
 
   -- over a token of one byte
   pub steps : (p : State) (c : Class) (at : ℕ) (after : Reader) → Stands r c at → Moved r (at + 1) after
       → next q c (get_or r.text.now at 0) ≡ Some p → answer_of r q ≡ answer_of after p
-  steps p c at after h m e = stands c at h ∙ (ap (λ o. onward o at (drop (at + 1) r.text.now)) e ∙ moved r (at + 1) after m p)
+  steps p c at after h m e = stands c at h ∙ rw e (moved r (at + 1) after m p)
 
   -- no step at a byte
   odd_byte : (c : Class) (at : ℕ) → Stands r c at → ((b : ℕ) → next q c b ≡ None) → answer_of r q ≡ Err at
-  odd_byte c at h n = stands c at h ∙ ap (λ o. onward o at (drop (at + 1) r.text.now)) (n (get_or r.text.now at 0))
+  odd_byte c at h n = stands c at h ∙ rw (n (get_or r.text.now at 0))
 
   pub refused : (t : Token) → Begins r t → Refuses q t → answer_of r q ≡ Err (place_of t)
   refused (tokens.Table s at) h n = odd_byte Table at h.0 n
@@ -86,7 +85,7 @@ module _ (r : Reader) (q : State) (rests : Rests q) where
   refused (tokens.Close at) h n = odd_byte Close at h n
   refused (tokens.Comma at) h n = odd_byte Comma at h n
   refused (tokens.Other at) h n = odd_byte h.0 at h.2 (λ b. n b h.0 h.1)
-  refused (tokens.End at) h n = ends at h ∙ ap (λ o. finish o at) (n 0)
+  refused (tokens.End at) h n = ends at h ∙ rw (n 0)
 
 -- over a mark from one state to the next, or to the fault
 abbrev pub Passes : Reader → State → State → Result (Unit {0}) Refusal → Reader → Type 0
@@ -97,7 +96,7 @@ pub passes : (q p : State) (want : Class) → ((c : Class) (b : ℕ) → next q 
     → (before : Reader) (r : Result (Unit {0}) Refusal) (after : Reader) → Found before want r after → Passes before q p r after
 passes q p want by go stop before (Ok _) after (at, h, m) =
     (record { text = m.text; place = omega (arith, h.here, m.place) }, steps before q (by Blank 32) p want at after h m (by want (get_or before.text.now at 0) ∙ go))
-passes q p want by go stop before (Err e) after (inl h) = ends before q (by Blank 32) e.at h ∙ ap (λ o. finish o e.at) stop
+passes q p want by go stop before (Err e) after (inl h) = ends before q (by Blank 32) e.at h ∙ rw stop
 passes q p want by go stop before (Err e) after (inr (d, h, ne, nb)) =
     let none : only want p d q ≡ None = rw (other_is d Blank nb, other_is d want ne) in
     odd_byte before q (by Blank 32) d e.at h (λ b. by d b ∙ none)
