@@ -13,7 +13,7 @@ use Rattle.rule.specs.declared.rules.Term.{Term}
 use Rattle.rule.specs.declared.rules.Term.TheVariants as terms
 use Rattle.rule.specs.Classes.{class}
 use Rattle.rule.specs.Grammar.{Said, Symbol, Writes, Spells, Says, Numeral, OneOrMore, further, term_symbols, atom_symbols}
-use Rattle.rule.specs.Scanning.{State, grown, next, scan, onward}
+use Rattle.rule.specs.Scanning.{State, grown, next, scan}
 use Rattle.rule.proofs.Classing.{table_class, variable_class, digit_class}
 
 -- on these bytes the reader, standing at q, finds these atoms
@@ -27,7 +27,7 @@ Then q ss all = (raw : List ℕ) → Spells raw ss → Leads q raw all
 -- over spaces to a token
 over : {raw : List ℕ} {s : Symbol} {ss : List Symbol} → Spells raw (s ∷ ss) → (q : State) (all : List Said) → next q Blank 32 ≡ Some q
     → ((w rest : List ℕ) → Writes w s → Spells rest ss → Leads q (w ++ rest) all) → Leads q raw all
-over (Spells.space {raw} h) q all skip go n = ap (λ o. onward o n raw) skip ∙ over h q all skip go (n + 1)
+over (Spells.space h) q all skip go n = rw skip (over h q all skip go (n + 1))
 over (Spells.token {raw} {rest} w h) q all skip go n = go raw rest w h n
 
 -- what bytes a mark has
@@ -48,7 +48,7 @@ over_mark : {raw : List ℕ} {s : Symbol} {ss : List Symbol} → Spells raw (s �
     → (q p : State) (all : List Said) → next q Blank 32 ≡ Some q → next q (class b) b ≡ Some p → Then p ss all → Leads q raw all
 over_mark h b is q p all skip step go =
     over h q all skip λ w rest x s n.
-    ap (λ l. scan q n (l ++ rest)) (is w x) ∙ (ap (λ o. onward o n rest) step ∙ go rest s (n + 1))
+    rw (is w x, step) (go rest s (n + 1))
 
 -- within the limits of a constant
 abbrev Fits : List ℕ → Type 0
@@ -78,9 +78,8 @@ digits_lead [] _ ds f d k ts rest all go n = rw append-nil at (go n)
 digits_lead (b ∷ more) g ds f d k ts rest all go n =
     let e = append_assoc ds (b ∷ []) more in
     let f' : Fits ((ds ++ (b ∷ [])) ++ more) = rw e f in
-    ap (λ c. onward (next (State.digits d k ts ds) c b) n (more ++ rest)) (digit_byte b g.0)
-    ∙ (ap (λ o. onward o n (more ++ rest)) (grown_fits d k ts (ds ++ (b ∷ [])) (fits_less (ds ++ (b ∷ [])) more f'))
-    ∙ digits_lead more g.1 (ds ++ (b ∷ [])) f' d k ts rest all (rw e go) (n + 1))
+    rw (digit_byte b g.0, grown_fits d k ts (ds ++ (b ∷ [])) (fits_less (ds ++ (b ∷ [])) more f'))
+    (digits_lead more g.1 (ds ++ (b ∷ [])) f' d k ts rest all (rw e go) (n + 1))
 
 -- over a whole constant
 constant_leads : (raw : List ℕ) → Numeral raw → (d : List Said) (k : ℕ) (ts : List Term) (rest : List ℕ) (all : List Said)
@@ -88,9 +87,7 @@ constant_leads : (raw : List ℕ) → Numeral raw → (d : List Said) (k : ℕ) 
 constant_leads [] (_, l, _, _) d k ts rest all go n = absurd (let z : ⊥ = omega arith in z)
 constant_leads (b ∷ more) (g, l, m, v) d k ts rest all go n =
     let f : Fits (b ∷ more) = (m, v) in
-    ap (λ c. onward (next (State.term d k ts) c b) n (more ++ rest)) (digit_byte b g.0)
-    ∙ (ap (λ o. onward o n (more ++ rest)) (grown_fits d k ts (b ∷ []) (fits_less (b ∷ []) more f))
-    ∙ digits_lead more g.1 (b ∷ []) f d k ts rest all go (n + 1))
+    rw (digit_byte b g.0, grown_fits d k ts (b ∷ []) (fits_less (b ∷ []) more f)) (digits_lead more g.1 (b ∷ []) f d k ts rest all go (n + 1))
 
 -- a comma or a bracket is next
 data Ends : List Symbol → Type 0 where
@@ -113,9 +110,7 @@ module _ (d : List Said) (k : ℕ) (all : List Said) where
   variable_leads : (b v : ℕ) → b ≡ 97 + v → v < 26 → (ts : List Term) (rest : List ℕ)
       → Leads (State.said d k (ts ++ (terms.Variable v ∷ []))) rest all → Leads (State.term d k ts) (b ∷ rest) all
   variable_leads b v e l ts rest go n =
-      let x : b - 97 ≡ v = omega arith in
-      ap (λ c. onward (next (State.term d k ts) c b) n rest) (variable_class b (omega arith) (omega arith))
-      ∙ (ap (λ m. scan (State.said d k (ts ++ (terms.Variable m ∷ []))) (n + 1) rest) x ∙ go (n + 1))
+      let x : b - 97 ≡ v = omega arith in rw (variable_class b (omega arith) (omega arith), x) (go (n + 1))
 
   step_term : (t : Term) (ss : List Symbol) → Ends ss → (ts : List Term) → Then (State.said d k (ts ++ (t ∷ []))) ss all
       → (w rest : List ℕ) → Writes w (Symbol.term t) → Spells rest ss → Leads (State.term d k ts) (w ++ rest) all
@@ -142,9 +137,7 @@ module _ (d : List Said) (k : ℕ) (all : List Said) where
 
   letter_leads : (w rest : List ℕ) → Writes w (Symbol.table k) → Leads (State.table d k) rest all → Leads (State.atom d) (w ++ rest) all
   letter_leads w rest (Writes.writes_table {b} e l) go n =
-      let letter : b - 65 ≡ k = omega arith in
-      ap (λ c. onward (next (State.atom d) c b) n rest) (table_class b (omega arith) (omega arith))
-      ∙ (ap (λ j. scan (State.table d j) (n + 1) rest) letter ∙ go (n + 1))
+      let letter : b - 65 ≡ k = omega arith in rw (table_class b (omega arith) (omega arith), letter) (go (n + 1))
 
   atom_leads : (ts : List Term) (ss : List Symbol) → OneOrMore ts → Then (closed ts) ss all
       → Then (State.atom d) (atom_symbols (record { table = k; terms = ts }) ss) all

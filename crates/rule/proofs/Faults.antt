@@ -54,10 +54,9 @@ stuck_step q b raw n p (Some r) step go e =
         inside = omega (arith, s.inside);
         tail = s.tail;
         all = s.all;
-        lives = λ m. ap (λ o. onward o m (take h.0 raw ++ s.tail)) step ∙ s.lives (m + 1);
+        lives = λ m. rw step (s.lives (m + 1));
         dies = λ l rest m.
-            let k = s.dies (omega arith) rest (m + 1) in
-            (k.0, ap (λ o. onward o m (take (suc h.0) raw ++ rest)) step ∙ k.1);
+            let k = s.dies (omega arith) rest (m + 1) in (k.0, rw step k.1);
       },
     )
 stuck_step q b raw n p None step go e =
@@ -70,7 +69,7 @@ stuck_step q b raw n p None step go e =
         tail = c.0;
         all = c.1;
         lives = c.2;
-        dies = λ l rest m. (m, ap (λ o. onward o m rest) step);
+        dies = λ l rest m. (m, rw step);
       },
     )
 
