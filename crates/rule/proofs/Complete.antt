@@ -129,7 +129,7 @@ module _ (d : List Said) (k : ℕ) (all : List Said) where
       → Then (State.said d k before) (further term_symbols ts (Symbol.right ∷ ss)) all
   terms_lead [] ss before go raw h =
       over_mark h 41 is_right (State.said d k before) (closed before) all refl refl
-      (subst (λ l. Then (closed l) ss all) (append-nil before) go)
+      (rw append-nil at go)
   terms_lead (t ∷ ts) ss before go raw h =
       over_mark h 44 is_comma (State.said d k before) (State.term d k before) all refl refl
       (term_leads t (further term_symbols ts (Symbol.right ∷ ss)) (further_ends ts ss) before

@@ -106,10 +106,7 @@ breaks raw p e =
 continues_less : (raw : List ℕ) (i j : ℕ) → i ≤ j → Continues (take j raw) → Continues (take i raw)
 continues_less raw i j h c =
     let t = take j raw in
-    let e : take i raw ++ (drop i t ++ c.0) ≡ t ++ c.0 =
-    ap (λ l. l ++ (drop i t ++ c.0)) (sym (take-take i j raw h))
-    ∙ (sym (append_assoc (take i t) (drop i t) c.0) ∙ ap (λ l. l ++ c.0) (take-append-drop i t)) in
-    (drop i t ++ c.0, rw e c.1)
+    (drop i t ++ c.0, rw (← take-take i j raw h, ← append_assoc (take i t) (drop i t) c.0, take-append-drop i t) c.1)
 
 not_later : (raw : List ℕ) (i j : ℕ) → BreaksAt raw i → BreaksAt raw j → i < j → ⊥
 not_later raw i j (c, inl b) (d, e) h = b.1 (continues_less raw (i + 1) j (omega arith) d)

@@ -162,7 +162,7 @@ module _ {text : List ℕ} {rule : Rule} {now : Reader} {before : List Said} (g 
 
     module _ (next_rule : Rule) (m : atoms_of next_rule ≡ atoms_of rule ++ (a ∷ [])) where
       pub keeps_after : atoms_of next_rule ≡ map kept all_said
-      keeps_after = m ∙ (ap (λ l. l ++ (a ∷ [])) g.keeps ∙ (ap (λ x. map kept before ++ (x ∷ [])) f.keeps ∙ sym (map_push kept before f.said)))
+      keeps_after = rw (m, g.keeps, f.keeps) (sym (map_push kept before f.said))
 
       pub gathered_more : {at : ℕ} {after : Reader} → Lexed mid (tokens.Comma at) after → Gathered text next_rule after all_said
       gathered_more {at} {after} h =
