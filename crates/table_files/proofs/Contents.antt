@@ -44,10 +44,6 @@ module _ (last : Bool) (raw v : List ℕ) (h : Content raw v) where
         | inr q ↦ elim k [ inl n ↦ absurd (no_quote q.1 n.2) | inr n ↦ absurd (not_nil q.1 n.0) ]
       ]
 
-  pub number_none : last ≡ true → raw ≡ [] → Number last v None
-  number_none t e k =
-      elim (kept_content k) [ inl m ↦ omega (arith, ap length e) | inr m ↦ false≢true (sym m.1 ∙ t) ]
-
   number_some : (n : ℕ) → Numeral raw → n ≡ digits_value 10 raw → Number last v (Some n)
   number_some n k e =
       elim (same_content h) [
@@ -59,25 +55,7 @@ module _ (last : Bool) (raw v : List ℕ) (h : Content raw v) where
   number_of None l n = λ k. elim (kept_content k) [ inl m ↦ n m | inr m ↦ omega (arith, ap length m.0) ]
   number_of (Some n) l k = number_some n k.0 k.1
 
-  pub number_blank : last ≡ false → raw ≡ [] → Number last v (Some 0)
-  number_blank f e =
-      elim (same_content h) [
-        | inl s ↦ (inr (sym s ∙ e, f), ap (digits_value 10) (sym (sym s ∙ e)))
-        | inr q ↦ absurd (not_nil q.0 e)
-      ]
-
 -- the quotes around a field
-
-pub content_quoted : {raw v : List ℕ} → Field raw v → 1 < length raw → get_or raw 0 0 ≡ DQUOTE → Content (take (length raw - 1 - 1) (drop 1 raw)) v
-content_quoted {v = v} (Field.escaped {raw = w} i) l e =
-    let n : length w ≡ length (DQUOTE ∷ (w ++ (DQUOTE ∷ []))) - 1 - 1 = omega (arith, length-append w (DQUOTE ∷ [])) in
-    inr (subst (λ t. Inside t v) (sym (take_at w (DQUOTE ∷ []) _ n)) i)
-content_quoted (Field.plain NonEscaped.none) l e = absurd (omega arith)
-content_quoted (Field.plain (NonEscaped.more x n)) l e = absurd (omega arith)
-
-pub content_plain : {raw v : List ℕ} → Field raw v → (1 < length raw → get_or raw 0 0 ≡ DQUOTE → ⊥) → Content raw v
-content_plain (Field.escaped {raw = w} i) o = absurd (o (omega (arith, length-append w (DQUOTE ∷ []))) refl)
-content_plain (Field.plain n) o = inl n
 
 -- the name of a header's last field
 

@@ -24,10 +24,6 @@ pub record Counted (text : List ℕ) (places : List FieldPlace) (field : ℕ) (l
       ((g : ℕ) → g < field → Rule values g × (get_or ns g 0 ≡ digits_value 10 (get_or values g [])))
   pub beyond : (g : ℕ) → field ≤ g → get_or ns g 0 ≡ 0
 
-pub counted_none : (text : List ℕ) (places : List FieldPlace) (ns : List ℕ) → length ns ≡ 5 → ((g : ℕ) → get_or ns g 0 ≡ 0) → Counted text places 0 places ns
-counted_none text places ns r z =
-    record { room = r; inside = omega arith; left_is = refl; so_far = λ values s g l. absurd (omega arith); beyond = λ g l. z g }
-
 module _ (text : List ℕ) (places : List FieldPlace) (field : ℕ) (left : List FieldPlace) (ns : List ℕ) (h : Counted text places field left ns) where
   left_length : length left ≡ length places - field
   left_length = ap length h.left_is ∙ length-drop field places
@@ -93,14 +89,6 @@ module _ (text : List ℕ) (places : List FieldPlace) (field : ℕ) (left : List
         beyond = λ g l. get_or-set_other ns field g n 0 (omega arith) ∙ h.beyond g (omega arith);
       }
 
-  pub counted_all : length left ≡ 0 → (values : List (List ℕ)) → Standing text places values → Numbers values (Ok ns)
-  counted_all none values s = (
-    h.room,
-    λ f l. (h.so_far values s f (omega (arith, left_length, s.0, h.inside))).0,
-    λ k l. (h.so_far values s k (omega (arith, left_length, s.0, h.inside))).1,
-    λ k l. h.beyond k (omega (arith, left_length, s.0, h.inside)),
-  )
-
 -- the numbers of a row, by those of its fields
 
 module _ (values : List (List ℕ)) (ns : List ℕ) (h : Numbers values (Ok ns)) (m : ℕ) (is : m + 1 ≡ length values) (few : length values ≤ 5) where
@@ -143,12 +131,3 @@ standing_found values records r rest h few room n is =
       omega arith,
       λ k lk. subst (λ p. Holds r.text.now p (get_or values k [])) (sym (get_or-take n r.places k nowhere (omega arith))) (h.stand k lk (omega arith)),
     )
-
-pub within_take : (text : List ℕ) (places : List FieldPlace) (n : ℕ) → ((k : ℕ) → Within text (get_or places k nowhere)) →
-    (k : ℕ) → Within text (get_or (take n places) k nowhere)
-within_take text places n h k =
-    elim (cases_lt k n) [
-      | inl l ↦ subst (Within text) (sym (get_or-take n places k nowhere l)) (h k)
-      | inr l ↦
-          subst (Within text) (sym (get_or_past (take n places) k nowhere (omega (arith, length-take n places)))) (omega arith, omega arith)
-    ]
