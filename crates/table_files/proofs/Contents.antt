@@ -1,12 +1,12 @@
 -- What stands in a field, and the value that it says: the same bytes, unless both have a quote.
-use Rattle.std.proofs.Common.{◌≡◌, ℕ, ◌-◌, ◌<◌, Bool, true, false, ◌||◌, eqb, ◌⊎◌, List, [], ◌∷◌, ◌++◌, length, get_or, take, drop, Some, None, Option, sym, refl, ap, ◌∙◌, subst, inl, inr, arith, length-append, MatchOption}
+use Rattle.std.proofs.Common.{◌≡◌, ℕ, ◌-◌, ◌<◌, Bool, true, false, ◌||◌, eqb, ◌⊎◌, List, [], ◌∷◌, length, get_or, Some, None, Option, sym, refl, ap, ◌∙◌, subst, inl, inr, arith, MatchOption, ◌+◌, ◌≤◌, Decides}
+use Rattle.std.specs.Bool.{then_some}
 use Rattle.std.specs.Str.Parse.{AllDigits, digits_value}
-use Rattle.std.proofs.lemmas.List.{take_at}
 use Rattle.std.proofs.lemmas.Str.Parse.{digit_from_value}
 use Rattle.std.proofs.lemmas.Bool.{false≢true}
-use Rattle.table_files.specs.Grammar.{DQUOTE, NonEscaped, Inside, Field}
+use Rattle.table_files.specs.Grammar.{DQUOTE, NonEscaped, Inside}
 use Rattle.table_files.specs.Fields.{Content}
-use Rattle.table_files.specs.Places.{Number}
+use Rattle.table_files.specs.Places.{Number, Width}
 use Rattle.table_files.specs.Tables.{Numeral, sure}
 
 -- a quote stands in the list
@@ -79,3 +79,12 @@ sure_content h e = elim (same_content h) [ inl s ↦ sym s ∙ e | inr q ↦ abs
 
 pub sure_value : {raw v : List ℕ} → Content raw v → v ≡ sure → raw ≡ sure
 sure_value h e = elim (same_content h) [ inl s ↦ s ∙ e | inr q ↦ absurd (no_quote_sure q.1 e) ]
+
+pub sure_width : (names : List (List ℕ)) (w : ℕ) (raw : List ℕ) → w + 1 ≡ length names → 2 ≤ length names → length names ≤ 5 → Content raw (get_or names w []) →
+    (b : Bool) → Decides b (raw ≡ sure) → Width names (then_some b w)
+sure_width names w raw n lo hi t true d =
+    let e : length names - 1 ≡ w = omega arith in
+    ((lo, hi, ap (λ k. get_or names k []) e ∙ sure_content t (d.0 refl)), n)
+sure_width names w raw n lo hi t false d = λ l.
+    let e : length names - 1 ≡ w = omega arith in
+    false≢true (d.1 (sure_value t (sym (ap (λ k. get_or names k []) e) ∙ l.2)))

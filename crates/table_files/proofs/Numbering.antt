@@ -1,12 +1,12 @@
 -- The numbers of a row's fields, one after the other.
 use Rattle.std.proofs.Common.{◌≡◌, ℕ, ◌+◌, ◌-◌, ◌<◌, ◌≤◌, min, false, eqb, ltb, ◌⊎◌, List, [], ◌∷◌, length, get_or, take, drop, set, Some, None, Ok, Err, Option, sym, refl, ap, ◌∙◌, subst, inl, inr, arith, length-drop, length-take}
 use Rattle.std.specs.Str.Parse.{digits_value}
-use Rattle.std.proofs.lemmas.List.{drop-drop, get_or-drop, get_or_past, get_or-set_same, get_or-set_other, get_or-take, length-set}
+use Rattle.std.proofs.lemmas.List.{drop-drop, get_or-drop, get_or-set_same, get_or-set_other, get_or-take, length-set}
 use Rattle.std.proofs.lemmas.Bool.{cond_both, ltb-true, ltb-false, eqb-false, ne_eqb, cases_lt, cases_eq}
 use Rattle.table_files.specs.declared.fields.FieldPlace.{FieldPlace}
 use Rattle.table_files.specs.declared.records.RecordPlaces.{RecordPlaces}
 use Rattle.table_files.specs.declared.rows.Row.{Row}
-use Rattle.table_files.specs.Fields.{Holds, Within, nowhere}
+use Rattle.table_files.specs.Fields.{Holds, nowhere}
 use Rattle.table_files.specs.Places.{Found, Number, Numbers}
 use Rattle.table_files.specs.Tables.{Numeral, Rule, cell, row_of}
 

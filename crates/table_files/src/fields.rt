@@ -16,6 +16,9 @@ pub(super) struct FieldPlace {
 }
 
 impl FieldPlace {
+    // No bytes, at the start.
+    pub(super) const NOWHERE: FieldPlace = FieldPlace { start: 0, end: 0 };
+
     // What stands in the field, without the quotes around it.
     pub(super) fn content(self, text: &[u8]) -> &[u8]
         requires { Within text.now self }
@@ -25,8 +28,6 @@ impl FieldPlace {
         unquoted(&text[start..end])
     }
 }
-
-pub(super) const NOWHERE: FieldPlace = FieldPlace { start: 0, end: 0 };
 
 // The length of the field that a text begins with: up to the byte that ends it, or the end of the text.
 pub(super) fn field_length(text: &[u8]) -> usize
