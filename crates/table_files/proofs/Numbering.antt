@@ -1,14 +1,13 @@
 -- The numbers of a row's fields, one after the other.
-use Rattle.std.proofs.Common.{◌≡◌, ℕ, ◌+◌, ◌-◌, ◌<◌, ◌≤◌, min, false, eqb, ltb, ◌⊎◌, List, [], ◌∷◌, length, get_or, take, drop, set, Some, None, Ok, Err, Option, sym, refl, ap, ◌∙◌, subst, inl, inr, arith, length-drop, length-take}
+use Rattle.std.proofs.Common.{◌≡◌, ℕ, ◌+◌, ◌-◌, ◌<◌, ◌≤◌, min, false, eqb, ◌⊎◌, List, [], length, get_or, take, drop, set, Some, None, Err, Option, sym, refl, ap, ◌∙◌, subst, inl, inr, arith, length-drop, length-take}
 use Rattle.std.specs.Str.Parse.{digits_value}
 use Rattle.std.proofs.lemmas.List.{drop-drop, get_or-drop, get_or-set_same, get_or-set_other, get_or-take, length-set}
-use Rattle.std.proofs.lemmas.Bool.{cond_both, ltb-true, ltb-false, eqb-false, ne_eqb, cases_lt, cases_eq}
+use Rattle.std.proofs.lemmas.Bool.{eqb-false, ne_eqb, cases_lt}
 use Rattle.table_files.specs.declared.fields.FieldPlace.{FieldPlace}
 use Rattle.table_files.specs.declared.records.RecordPlaces.{RecordPlaces}
-use Rattle.table_files.specs.declared.rows.Row.{Row}
 use Rattle.table_files.specs.Fields.{Holds, nowhere}
 use Rattle.table_files.specs.Places.{Found, Number, Numbers}
-use Rattle.table_files.specs.Tables.{Numeral, Rule, cell, row_of}
+use Rattle.table_files.specs.Tables.{Numeral, Rule}
 
 -- the fields with these values stand at these places
 abbrev pub Standing : List ℕ → List FieldPlace → List (List ℕ) → Type 0
@@ -88,39 +87,6 @@ module _ (text : List ℕ) (places : List FieldPlace) (field : ℕ) (left : List
             ];
         beyond = λ g l. get_or-set_other ns field g n 0 (omega arith) ∙ h.beyond g (omega arith);
       }
-
--- the numbers of a row, by those of its fields
-
-module _ (values : List (List ℕ)) (ns : List ℕ) (h : Numbers values (Ok ns)) (m : ℕ) (is : m + 1 ≡ length values) (few : length values ≤ 5) where
-  cell_is : (k : ℕ) → k < 4 → get_or (set ns m 0) k 0 ≡ cell values k
-  cell_is k lt =
-      cond_both (ltb (k + 1) (length values)) _ _ (λ n. get_or (set ns m 0) k 0 ≡ n)
-      (λ t.
-      let l = ltb-true (k + 1) (length values) t in
-      get_or-set_other ns m k 0 0 (omega arith) ∙ h.2 k (omega arith))
-      (λ f.
-      let l = ltb-false (k + 1) (length values) f in
-      elim (cases_eq k m) [
-        | inl e ↦ ap (λ j. get_or (set ns m 0) j 0) e ∙ get_or-set_same ns m 0 0 (omega (arith, h.0))
-        | inr n ↦ get_or-set_other ns m k 0 0 n ∙ h.3 k (omega arith)
-      ])
-
-  pub row_is : ◌≡◌ {A = Row} (record {
-    cells = get_or (set ns m 0) 0 0 ∷ get_or (set ns m 0) 1 0 ∷ get_or (set ns m 0) 2 0 ∷ get_or (set ns m 0) 3 0 ∷ [];
-    sureness = get_or ns m 0;
-  }) (row_of values)
-  row_is =
-      let a = cell_is 0 (omega arith) in
-      let b = cell_is 1 (omega arith) in
-      let c = cell_is 2 (omega arith) in
-      let d = cell_is 3 (omega arith) in
-      let s : get_or ns m 0 ≡ digits_value 10 (get_or values (length values - 1) []) =
-      h.2 m (omega arith) ∙ ap (λ j. digits_value 10 (get_or values j [])) (omega arith) in
-      rows a b c d s
-    where
-      rows : {a b c d s a' b' c' d' s' : ℕ} → a ≡ a' → b ≡ b' → c ≡ c' → d ≡ d' → s ≡ s' →
-          ◌≡◌ {A = Row} (record { cells = a ∷ b ∷ c ∷ d ∷ []; sureness = s }) (record { cells = a' ∷ b' ∷ c' ∷ d' ∷ []; sureness = s' })
-      rows e f g h i = cc
 
 -- the places of a record's fields, where there are at most five
 pub standing_found : (values : List (List ℕ)) (records : List (List (List ℕ))) (r : RecordPlaces) (rest : List ℕ) → Found values records r rest →

@@ -1,9 +1,8 @@
-use Rattle.std.proofs.Common.{◌≡◌, ℕ, ◌+◌, ◌*◌, ◌<◌, ◌≤◌, List, length, get_or, take, ap, ◌∙◌, subst, arith, rules}
-use Rattle.std.specs.Str.Parse.{AllDigits, digits_value}
+use Rattle.std.proofs.Common.{◌≡◌, ℕ, ◌+◌, ◌*◌, ◌<◌, ◌≤◌, List, length, get_or, take, arith, rules}
+use Rattle.std.specs.Str.Parse.{digits_value}
 use Rattle.std.specs.Int.{IsInRange}
 use Rattle.std.specs.Char.{digit_value}
 use Rattle.std.proofs.lemmas.Int.Digits.{digits_value_more, digits_more}
-use Rattle.std.proofs.lemmas.List.{take_all}
 use Rattle.std.proofs.lemmas.Str.Parse.{digit_at, digits_value-take-le}
 use Rattle.std.proofs.lemmas.Str.{digit_value_digit}
 use Rattle.table_files.proofs.fields.number.Goals as goal
@@ -40,9 +39,3 @@ loop-digit-preserved c =
       omega (arith, digits_value_more 10 ds i lt, c.loop-digit.invariant.1, c.from.ensures, c.in_ok-checked_mul.ensures, c.in_ok-n.ensures),
       omega (arith, c.in_ok-n.ensures),
     )
-
-pub returns : goal.returns
-returns c =
-    let e = take_all c.loop-digit.digit-index c.args.digits.now (omega arith) in
-    let v = ap (digits_value 10) e in
-    ((c.requires, omega arith, subst (AllDigits 10) e c.loop-digit.invariant.0, omega (arith, v, c.loop-digit.invariant.1, c.loop-digit.invariant.2)), c.loop-digit.invariant.1 ∙ v)
