@@ -11,7 +11,7 @@ use super::{Kind, Node, PLACES};
 const WHOLE: u64 = 1_000_000_000;
 
 /// Two ends that a chance lies between, both included.
-#[derive(Clone, Copy)]
+#[derive(Clone, Copy, PartialEq, Eq, Debug)]
 pub struct Bracket {
     low: u64,
     high: u64,
@@ -45,7 +45,18 @@ impl Bracket {
     {
         Bracket {
             low: self.low * other.low / WHOLE,
-            high: (self.high * other.high + (WHOLE - 1)) / WHOLE,
+            high: (self.high * other.high).div_ceil(WHOLE),
+        }
+    }
+
+    // The bracket of the part that fails where this one holds.
+    fn complement(self) -> Bracket
+        ensures low { result.low ≡ left self.high }
+        ensures high { result.high ≡ left self.low }
+    {
+        Bracket {
+            low: WHOLE - self.high,
+            high: WHOLE - self.low,
         }
     }
 
@@ -54,10 +65,7 @@ impl Bracket {
         ensures low { result.low ≡ left (up (left self.low) (left other.low)) }
         ensures high { result.high ≡ left (down (left self.high) (left other.high)) }
     {
-        Bracket {
-            low: WHOLE - ((WHOLE - self.low) * (WHOLE - other.low) + (WHOLE - 1)) / WHOLE,
-            high: WHOLE - (WHOLE - self.high) * (WHOLE - other.high) / WHOLE,
-        }
+        self.complement().and(other.complement()).complement()
     }
 }
 

@@ -29,11 +29,7 @@ pub fn put_inner(kind: Kind, nodes: &mut [Node], at: usize, end: usize)
     ensures node { nodes.new ≡ slice_set nodes.old at (inner kind (end - at)) }
     ensures laid { (before : List Node) (cs : List Formula) → Children kind cs → at < length before → LaidBetween before nodes.old (at + 1) end cs → (nodes.new ≡ written before at (nodes_of (over kind cs))) × IsOver kind cs }
 {
-    let size = (end - at) as u16;
-    nodes[at] = match kind {
-        Kind::And => Node::And(size),
-        Kind::Or => Node::Or(size),
-    };
+    nodes[at] = kind.over((end - at) as u16);
 }
 
 /// Makes the places of node memory vacant, from a place on. Callers have tested that the memory has these places.
@@ -42,6 +38,5 @@ pub fn vacate(nodes: &mut [Node], from: usize)
     requires inside { from ≤ 511 }
     ensures { nodes.new ≡ written nodes.old from (replicate (511 - from) Vacant) }
 {
-    let vacant = [Node::Vacant; PLACES];
-    nodes[from..PLACES].copy_from_slice(&vacant[from..]);
+    nodes[from..PLACES].fill(Node::Vacant);
 }

@@ -1,5 +1,5 @@
-use Rattle.std.proofs.Common.{◌≡◌, ◌-◌, take, drop, replicate, sym, ap, ◌∙◌, arith, take_all}
-use Rattle.std.proofs.lemmas.List.{length-replicate, drop-replicate}
+use Rattle.std.proofs.Common.{◌≡◌, ◌-◌, length, take, drop, replicate, sym, ap, ◌∙◌, arith, length-take, length-drop}
+use Rattle.std.proofs.lemmas.List.{length-replicate}
 use Rattle.tree.specs.declared.Node.TheVariants.{Vacant}
 use Rattle.tree.proofs.Building.{written_part}
 use Rattle.tree.proofs.build.vacate.Goals as goal
@@ -7,6 +7,6 @@ use Rattle.tree.proofs.build.vacate.Goals as goal
 pub returns : goal.returns
 returns c =
     let n = 511 - c.args.from in
-    let same : take n (drop c.args.from (replicate 511 Vacant)) ≡ replicate n Vacant =
-    ap (take n) (drop-replicate c.args.from 511 Vacant) ∙ take_all n (replicate n Vacant) (omega (arith, length-replicate n Vacant)) in
-    written_part c.args.nodes.now c.copy_from_slice.new.self (replicate n Vacant) c.args.from n (c.copy_from_slice.ensures.after ∙ same) (sym (length-replicate n Vacant))
+    let l : length (take n (drop c.args.from c.args.nodes.now)) ≡ n = omega (arith, length-take n (drop c.args.from c.args.nodes.now), length-drop c.args.from c.args.nodes.now) in
+    written_part c.args.nodes.now c.fill.new.self (replicate n Vacant) c.args.from n
+    (c.fill.ensures.after (λ y e. e) ∙ ap (λ k. replicate k Vacant) l) (sym (length-replicate n Vacant))
