@@ -11,6 +11,7 @@ pub mod Placing
 pub mod Building
 -- the passes over nodes
 pub mod Progress
+pub mod Visits
 pub mod Turns
 pub mod Folding
 pub mod Filling

@@ -1,6 +1,8 @@
 -- Going through the children of an and or an or, first to last.
 use Rattle.std.proofs.Common.{◌≡◌, ℕ, suc, ◌+◌, ◌<◌, ◌≤◌, List, [], ◌∷◌, ◌++◌, length, get_or, drop, sym, ap, ◌∙◌, subst, append_assoc, arith, length-append, drop-drop}
 use Rattle.std.specs.List.{flat_map}
+use Rattle.std.specs.Coded.{×_prop, le_prop}
+use Rattle.std.proofs.Math.Logic.{∥∥₁_elim}
 use Rattle.tree.specs.Formulas.{Formula, row, under, Form}
 use Rattle.tree.specs.declared.Kind.{Kind}
 use Rattle.tree.specs.declared.Node.{Node}
@@ -113,15 +115,19 @@ module _ (fs : List Formula) (k : Kind) (at end c : ℕ) (P : Formula → Type 0
 
 -- the same, read off the nodes
 
+-- a bound that holds of each form that the nodes lay out
+pub lays_le : {ns : List Node} {a b : ℕ} → ∥ Lays ns ∥₁ → ((F : Form) → ns ≡ laid F → a ≤ b) → a ≤ b
+lays_le lays h = ∥∥₁_elim lays le_prop (λ (F, l). h F l)
+
 -- the nodes from a node down are there
-pub within : (ns : List Node) → Lays ns → (c : ℕ) (d : Node) → c < length ns → (0 < size_of (get_or ns c d)) × (c + size_of (get_or ns c d) ≤ length ns)
-within ns (F, e) c d h =
+pub within : (ns : List Node) → ∥ Lays ns ∥₁ → (c : ℕ) (d : Node) → c < length ns → (0 < size_of (get_or ns c d)) × (c + size_of (get_or ns c d) ≤ length ns)
+within ns lays c d h = ∥∥₁_elim lays (×_prop le_prop le_prop) (λ (F, e).
     let s = sized ns F e c d h in
     let (k, _) = at_node ns F e c d h in
     let (rest, n) = nested F c k in
     let b = begins (parts F) c (get_or (parts F) c (row 0)) rest n in
     let m = count ns F e in
-    (omega (arith, b.some), omega (arith, b.room))
+    (omega (arith, b.some), omega (arith, b.room)))
 
 module _ (ns : List Node) (F : Form) (lays : ns ≡ laid F) (k : Kind) (at size : ℕ) (d : Node) (inside : at < length ns) (is : get_or ns at d ≡ inner k size) where
   pub inner_at : node (get_or (parts F) at (row 0)) ≡ inner k size
@@ -138,8 +144,8 @@ module _ (ns : List Node) (F : Form) (lays : ns ≡ laid F) (k : Kind) (at size 
   onward_at c P Q p b h more e n s = subst (λ m. Progress (parts F) k at (at + size) (c + m) Q) (sym (s ∙ sized ns F lays c e h)) (step (parts F) k at (at + size) c P Q p b more)
 
 -- an and or an or has a first child
-pub roomed : (ns : List Node) → Lays ns → (k : Kind) (at size : ℕ) (d : Node) → at < length ns → get_or ns at d ≡ inner k size → (at + size ≤ length ns) × (at + 1 < at + size)
-roomed ns (F, e) k at size d h i =
+pub roomed : (ns : List Node) → ∥ Lays ns ∥₁ → (k : Kind) (at size : ℕ) (d : Node) → at < length ns → get_or ns at d ≡ inner k size → (at + size ≤ length ns) × (at + 1 < at + size)
+roomed ns lays k at size d h i = ∥∥₁_elim lays (×_prop le_prop le_prop) (λ (F, e).
     let s = start_at ns F e k at size d h i in
     let m = count ns F e in
-    (omega (arith, s.room), s.child)
+    (omega (arith, s.room), s.child))

@@ -6,3 +6,4 @@ pub mod Trees
 pub mod Chances
 pub mod Texts
 pub mod Passes
+pub mod Walks

@@ -7,12 +7,14 @@ ghost use Rattle.tree.specs.Nodes.{size_of, inner, inner_of};
 mod bracket;
 mod build;
 mod form;
+mod layout;
 mod pass;
 mod worlds;
 
 pub use bracket::{Bracket, chance};
 pub use build::{put_inner, put_row, vacate};
 pub use form::write_form;
+pub use layout::Layout;
 pub use worlds::evaluate;
 
 /// The places that node memory has: 256 rows make at most 511 nodes.
