@@ -7,3 +7,4 @@ pub mod Chances
 pub mod Texts
 pub mod Passes
 pub mod Walks
+pub mod Builders

@@ -12,7 +12,7 @@ mod pass;
 mod worlds;
 
 pub use bracket::{Bracket, chance};
-pub use build::{put_inner, put_row, vacate};
+pub use build::Builder;
 pub use form::write_form;
 pub use layout::Layout;
 pub use worlds::evaluate;

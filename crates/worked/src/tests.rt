@@ -5,7 +5,7 @@ ghost use Rattle.tree.specs.Trees.{Ascending};
 
 use super::lay::lay_rows;
 use scale::Count;
-use tree::{Kind, Layout, Node, chance, evaluate, write_form};
+use tree::{Builder, Kind, Layout, Node, chance, evaluate, write_form};
 
 // The number of worlds where one of the rows is in, counted with ones.
 fn count_under_or(rows: &[u8]) -> u64
@@ -15,7 +15,9 @@ fn count_under_or(rows: &[u8]) -> u64
     requires few { length rows.now ≤ 31 }
 {
     let mut nodes = [Node::Vacant; 32];
-    let end = lay_rows(Kind::Or, rows, &mut nodes, 0);
+    let mut builder = Builder::new(&mut nodes, 0);
+    lay_rows(Kind::Or, rows, &mut builder);
+    let end = builder.place();
     let ones = [Count::new(1); 32];
     let mut pairs = [(Count::new(0), Count::new(0)); 32];
     let layout = Layout {
@@ -28,7 +30,9 @@ fn count_under_or(rows: &[u8]) -> u64
 // The chance of two rows of sureness 1.
 fn two_rows(kind: Kind) -> (u64, u64) {
     let mut nodes = [Node::Vacant; 3];
-    let end = lay_rows(kind, &[0, 1], &mut nodes, 0);
+    let mut builder = Builder::new(&mut nodes, 0);
+    lay_rows(kind, &[0, 1], &mut builder);
+    let end = builder.place();
     let layout = Layout {
         nodes: &nodes[..end],
     };
