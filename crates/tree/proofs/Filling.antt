@@ -5,7 +5,6 @@ use Rattle.std.proofs.ByRecursion.{All-get_or}
 use Rattle.scale.specs.Semirings.{Semiring}
 use Rattle.tree.specs.Formulas.{Formula, row, under, rows, Distinct, Form, never, form, form_rows, form_holds, ReadOnce}
 use Rattle.tree.specs.Worlds.{WorldSums}
-use Rattle.tree.specs.declared.Node.{Node}
 use Rattle.tree.specs.Layout.{alone, spread, parts}
 use Rattle.tree.specs.Chances.{bracket_under, bracket, form_bracket, sureness}
 use Rattle.tree.specs.Passes.{Worked, weighing, means, EachSums, folded, form_folded, pair_under}
@@ -19,7 +18,7 @@ once_parts never o k h = absurd (let z : ⊥ = omega arith in z)
 once_parts (form f) o k h = All-get_or (λ g. Distinct (rows g)) (spread alone f) k (row 0) h
     (all_spread (λ g. Distinct (rows g)) (λ g. Distinct (rows g)) (λ r d. d) (λ j g i d. let (a, b, c) = distinct_parts (rows g) (rows i) d in (d, a, b)) alone f o)
 
-module _ {V M : Type 0} (R : Semiring M) (mean : V → M) (ns : List Node) (ins outs : List V) where
+module _ {V M : Type 0} (R : Semiring M) (mean : V → M) (ins outs : List V) where
   abbrev pub pair_leaf : ℕ → M × M
   pair_leaf r = ((weighing R mean ins outs).ins r, (weighing R mean ins outs).outs r)
 

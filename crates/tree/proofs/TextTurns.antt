@@ -13,7 +13,7 @@ use Rattle.tree.specs.Layout.{node, parts, laid}
 use Rattle.tree.specs.Trees.{gather}
 use Rattle.tree.specs.Texts.{gap, is_and, opening, closing, row_text, formula_text}
 use Rattle.tree.proofs.Nested.{inner_same, inner_not_row, row_node, at_node}
-use Rattle.tree.proofs.Progress.{Progress, inner_at, start_at, next_child}
+use Rattle.tree.proofs.Progress.{Progress, Branch, inner_at, start_at, next_child}
 
 -- the text of some children of a node of the kind, with no brackets round them
 abbrev pub body : Kind → Formula → List ℕ
@@ -51,14 +51,14 @@ module _ (k : Kind) (inside : Bool) (w₀ : Writer) (room : w₀.at ≤ room_of 
   pub begun_all : {w w' : Writer} (f : Formula) (n : ℕ) → node f ≡ inner k n → Begun w f → Wrote w w' (closing k inside) → Wrote w₀ w' (formula_text inside f)
   begun_all f n e a b = wrote_as (append_assoc (opening k inside) (body k f) (closing k inside) ∙ sym (whole_text k inside f n e)) (wrote_both a b room)
 
-module _ (ns : List Node) (F : Form) (lays : ns ≡ laid F) (k : Kind) (at size : ℕ) (there : at < length ns) (is : get_or ns at Vacant ≡ inner k size) (inside : Bool) (w₀ : Writer)
+module _ {ns : List Node} {k : Kind} {at size : ℕ} (b : Branch ns k at size) (F : Form) (l : ns ≡ laid F) (inside : Bool) (w₀ : Writer)
     (fits : w₀.at + length (formula_text inside (get_or (parts F) at (row 0))) ≤ room_of w₀) where
   abbrev self : Formula
   self = get_or (parts F) at (row 0)
 
   sum_up : length (formula_text inside self) ≡ length (opening k inside) + (length (body k self) + length (closing k inside))
   sum_up =
-      ap length (whole_text k inside self size (inner_at ns F lays k at size Vacant there is))
+      ap length (whole_text k inside self size (inner_at b F l))
       ∙ length-append (opening k inside) (body k self ++ closing k inside) ∙ ap (λ n. length (opening k inside) + n) (length-append (body k self) (closing k inside))
 
   -- there is room for what opens the node
@@ -68,7 +68,7 @@ module _ (ns : List Node) (F : Form) (lays : ns ≡ laid F) (k : Kind) (at size 
   -- for the first child
   pub room_first : (w : Writer) → Wrote w₀ w (opening k inside) → w.at + length (body k (get_or (parts F) (at + 1) (row 0))) ≤ room_of w
   room_first w a =
-      let s = start_at ns F lays k at size Vacant there is in
+      let s = start_at b F l in
       omega (arith, fits, sum_up, a.place, a.room, ap (λ f. length (body k f)) s.begin.here, ap (λ f. length (body k f)) s.whole, longer k s.first s.others)
 
   -- for each other

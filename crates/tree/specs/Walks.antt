@@ -6,6 +6,7 @@ use Rattle.tree.specs.declared.Node.TheVariants.{Vacant}
 use Rattle.tree.specs.declared.layout.Children.{Children}
 
 -- over the same nodes, the place at hand comes, and the next one is behind all below the node there; none comes from the end on
-abbrev pub Goes : Children → Option ℕ → Children → Type 0
-Goes s r t = (t.layout.nodes.now ≡ s.layout.nodes.now) × (t.end ≡ s.end)
-    × MatchOption r (s.end ≤ s.at) (λ c. (c ≡ s.at) × (s.at < s.end) × (t.at ≡ s.at + size_of (slice_index_or s.layout.nodes.now s.at Vacant)))
+pub record Goes (s : Children) (r : Option ℕ) (t : Children) : Type 0 where
+  pub nodes : t.layout.nodes.now ≡ s.layout.nodes.now
+  pub end : t.end ≡ s.end
+  pub step : MatchOption r (s.end ≤ s.at) (λ c. (c ≡ s.at) × (s.at < s.end) × (t.at ≡ s.at + size_of (slice_index_or s.layout.nodes.now s.at Vacant)))

@@ -1,6 +1,6 @@
 use Rattle.std.proofs.Common.{◌+◌, ◌<◌, ◌≤◌, length, arith, rules}
 use Rattle.tree.specs.declared.Node.TheVariants.{Vacant}
-use Rattle.tree.proofs.Progress.{roomed, within}
+use Rattle.tree.proofs.Progress.{roomed, branch_at, within}
 use Rattle.tree.proofs.layout.Layout.later_children.Goals as goal
 use Rattle.tree.proofs.layout.Layout.later_children.Goals.{Start}
 
@@ -9,7 +9,7 @@ inside : (c : Start) → (c.args.at + 1 < length c.args.self.nodes.now) × (c.ar
 inside c =
     let s = c.args.self in
     let (k, e) = c.requires.there in
-    let r = roomed s.nodes.now s.lays k c.args.at c.args.size Vacant c.requires.inside e in
+    let r = roomed (branch_at s.lays c.requires.inside e) in
     (omega arith, r.0)
 
 pub bounds-self-first : goal.bounds-self-first
