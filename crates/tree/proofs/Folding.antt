@@ -1,46 +1,18 @@
 -- The turns of the pass over the nodes, last to first, and what it answers.
-use Rattle.std.proofs.Common.{◌≡◌, ℕ, ◌+◌, ◌<◌, ◌≤◌, List, length, get_or, drop, set, sym, refl, ap, ◌∙◌, subst, arith, get_or-set_other, get_or-set_same, drop-set-lt}
-use native.Mathlib.Decide.{ℕ_discrete}
+use Rattle.std.proofs.Common.{◌≡◌, ℕ, ◌<◌, ◌≤◌, List, length, get_or, drop, sym, refl, ap, ◌∙◌, subst, arith}
 use Rattle.tree.specs.Formulas.{row, Form}
 use Rattle.tree.specs.declared.Kind.{Kind}
 use Rattle.tree.specs.declared.Node.{Node}
-use Rattle.tree.specs.declared.Node.TheVariants.{Vacant, Row}
+use Rattle.tree.specs.declared.Node.TheVariants.{Vacant}
 use Rattle.tree.specs.Layout.{laid, parts}
 use Rattle.tree.specs.Passes.{Worked, Reads, folded, form_folded}
-use Rattle.tree.proofs.Nested.{row_node, not_vacant, at_node, count, first_part, no_part}
+use Rattle.tree.proofs.Nested.{not_vacant, at_node, count, first_part, no_part}
 
 module _ {V M : Type 0} (mean : V → M) (op : Kind → M → M → M) (reads : ℕ → V → Type 0) (ns : List Node) (entry : List V) where
   -- from a place on the values are worked out, and past the nodes they are as at entry
   pub record Folding (from : ℕ) (vs : List V) : Type 0 where
     pub beyond : drop (length ns) vs ≡ drop (length ns) entry
     pub worked : (F : Form) (leaf : ℕ → M) → ns ≡ laid F → Reads mean leaf reads ns → Worked mean (folded leaf op) (parts F) from vs
-
-  pub folding_none : (n : ℕ) → n ≡ length ns → Folding n entry
-  folding_none n e = record {
-    beyond = refl;
-    worked = λ F leaf l rs k d a h. absurd (let z : ⊥ = omega (arith, count ns F l) in z);
-  }
-
-  pub folding_set : (from at : ℕ) → from ≡ at + 1 → (vs : List V) (v : V) → at < length ns → length ns ≤ length vs → Folding from vs
-      → ((F : Form) (leaf : ℕ → M) → ns ≡ laid F → Reads mean leaf reads ns → Worked mean (folded leaf op) (parts F) (at + 1) vs → mean v ≡ folded leaf op (get_or (parts F) at (row 0)))
-      → Folding at (set vs at v)
-  folding_set from at e vs v h room p new = record {
-    beyond = drop-set-lt (length ns) vs at v h ∙ p.beyond;
-    worked = λ F leaf l rs k d a b. turn F leaf l rs (subst (λ n. Worked mean (folded leaf op) (parts F) n vs) e (p.worked F leaf l rs)) k d a b (ℕ_discrete k at);
-  }
-    where
-      turn : (F : Form) (leaf : ℕ → M) → ns ≡ laid F → Reads mean leaf reads ns → Worked mean (folded leaf op) (parts F) (at + 1) vs → (k : ℕ) (d : V) → at ≤ k → k < length (parts F) → Dec (k ≡ at)
-          → mean (get_or (set vs at v) k d) ≡ folded leaf op (get_or (parts F) k (row 0))
-      turn F leaf l rs w k d a b (yes e) =
-          ap (λ j. mean (get_or (set vs at v) j d)) e ∙ ap mean (get_or-set_same vs at v d (omega arith)) ∙ new F leaf l rs w ∙ ap (λ j. folded leaf op (get_or (parts F) j (row 0))) (sym e)
-      turn F leaf l rs w k d a b (no e) = ap mean (get_or-set_other vs at k v d e) ∙ w k d (omega arith) b
-
-  -- a row's value is read
-  pub folding_row : (from at : ℕ) → from ≡ at + 1 → (vs : List V) (r : ℕ) (v : V) → at < length ns → length ns ≤ length vs → Folding from vs
-      → get_or ns at Vacant ≡ Row r → reads r v → Folding at (set vs at v)
-  folding_row from at e vs r v h room p is q = folding_set from at e vs v h room p (λ F leaf l rs w.
-      let (m, n) = at_node ns F l at Vacant h in
-      rs at r v h is q ∙ ap (folded leaf op) (sym (row_node (get_or (parts F) at (row 0)) r (sym n ∙ is))))
 
   -- and no node is vacant
   pub folding_vacant : (from at : ℕ) (vs : List V) → at < length ns → Folding from vs → get_or ns at Vacant ≡ Vacant → Folding at vs

@@ -5,6 +5,7 @@ ghost use Rattle.tree.specs.Layout.{Lays};
 use super::Node;
 
 /// Nodes that lay out a form, as building leaves them.
+// Which form is no part of the value, so the fact says only that there is one.
 #[derive(Clone, Copy, PartialEq, Eq, Debug)]
 pub struct Layout<'a> {
     pub nodes: &'a [Node],

@@ -38,6 +38,7 @@ fn gathered<V: Combine>(layout: Layout, values: &[V], kind: Kind, at: usize, siz
 
 /// Puts at each node's place the value of its formula, and answers the form's: a row's is its leaf, and never has the one that is given.
 /// The last node comes first, so that the children of an and or an or are ready.
+// A node's value stands at the node's own place, in memory that the caller lends, so the loop goes by places.
 pub(crate) fn fold<V: Combine, L: Fn(u8) -> V>(
     layout: Layout,
     values: &mut [V],

@@ -1,6 +1,6 @@
 use Rattle.std.proofs.Common.{◌+◌, arith}
 use Rattle.tree.proofs.Progress.{Branch, branch_at, roomed}
-use Rattle.tree.proofs.Turns.{means_read, means_more}
+use Rattle.tree.proofs.Turns.{Means, means_read, means_more}
 use Rattle.tree.proofs.Visits.{visit_first, visit_inside, visit_next, visit_end}
 use Rattle.tree.proofs.pass.gathered.Goals.{Start}
 use Rattle.tree.proofs.pass.gathered.Goals as goal
@@ -17,11 +17,8 @@ loop-child-init g c =
     let e = c.later_children-child-items.ensures in
     let b = here g (goal.at.loop-child-init g c).Start in
     let r = roomed b in
-    visit_first b _ c.into_iter-child-iterator.ensures.into_iter_gives e.nodes e.begin e.end
+    visit_first b (Means g.V.Combine.mean g.V.Combine.op a.at a.values.now c.index-values-at.result) c.into_iter-child-iterator.ensures.into_iter_gives e.nodes e.begin e.end
     (λ F l. means_read g.V.Combine.mean g.V.Combine.op a.at a.values.now a.layout.nodes.now F l (a.at + 1) _ (omega arith) (omega arith) c.index-values-at.is)
-
-pub bounds-values-child : goal.bounds-values-child
-bounds-values-child g c = omega (arith, visit_inside (here g (goal.at.bounds-values-child g c).Start) c.next.ensures.steps c.loop-child.invariant c.in-Some.child c.in-Some.is)
 
 pub loop-child-preserved : goal.loop-child-preserved
 loop-child-preserved g c =

@@ -3,18 +3,8 @@ use Rattle.tree.specs.Formulas.{row}
 use Rattle.tree.specs.Nodes as Nodes
 use Rattle.tree.specs.Layout.{nodes_of}
 use Rattle.tree.specs.Trees.{LaidBetween, over}
-use Rattle.tree.proofs.Building.{between_none}
 use Rattle.worked.proofs.Laying.{rows_children, row_more, nodes_length}
 use Rattle.worked.proofs.lay.lay_rows.Goals as goal
-
-pub loop-row-init : goal.loop-row-init
-loop-row-init c =
-    let b = c.args.builder.now in
-    let o = c.open-place.ensures in
-    (omega (arith, o.next), o.memory, ap length o.nodes, rw (o.nodes, o.next) (between_none b.nodes.now (b.at + 1)))
-
-pub put_row-requires : goal.put_row-requires
-put_row-requires c = let i = c.loop-row.invariant in omega (arith, i.0, i.2, c.requires.room, c.loop-row-test.true)
 
 pub loop-row-preserved : goal.loop-row-preserved
 loop-row-preserved c =
@@ -28,14 +18,8 @@ loop-row-preserved c =
           (omega (arith, c.requires.room)) c.loop-row-test.true i.3 p.nodes p.place,
     )
 
-pub close-requires : goal.close-requires
-close-requires c =
-    let i = c.loop-row.invariant in
-    let o = c.open-place.ensures in
-    record { inside = omega (arith, i.2, o.place, c.requires.room); some = omega (arith, i.0, o.place); few = omega (arith, i.0, c.requires.few) }
-
-pub returns : goal.returns
-returns c =
+pub returns-clause-laid : goal.returns-clause-laid
+returns-clause-laid c =
     let b = c.args.builder.now in
     let k = c.args.kind in
     let rs = c.args.rows.now in
@@ -48,11 +32,8 @@ returns c =
     let at = subst (λ m. LaidBetween b.nodes.now w.nodes.now (m + 1) w.at (map row rs)) (sym o.place) all in
     let written = (e.laid b.nodes.now (map row rs) (rows_children k rs c.requires.two c.requires.order) (omega (arith, o.place, c.requires.room)) at).0 in
     record {
-      ends = omega (arith, e.next, i.0);
-      laid = record {
-        memory = e.memory ∙ i.1;
-        room = ap length e.node ∙ length-set w.nodes.now c.open-place.result _ ∙ i.2;
-        nodes = written ∙ ap (λ m. Nodes.written b.nodes.now m (nodes_of (over k (map row rs)))) o.place;
-        place = omega (arith, e.next, i.0, nodes_length k rs c.requires.two c.requires.order);
-      };
+      memory = e.memory ∙ i.1;
+      room = ap length e.node ∙ length-set w.nodes.now c.open-place.result _ ∙ i.2;
+      nodes = written ∙ ap (λ m. Nodes.written b.nodes.now m (nodes_of (over k (map row rs)))) o.place;
+      place = omega (arith, e.next, i.0, nodes_length k rs c.requires.two c.requires.order);
     }
