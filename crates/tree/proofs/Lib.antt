@@ -15,7 +15,6 @@ pub mod Visits
 pub mod Turns
 pub mod Folding
 pub mod Filling
-pub mod Ends
 -- the text
 pub mod TextTurns
 pub mod Lengths
