@@ -70,6 +70,7 @@ impl<'a> Builder<'a> {
     {
         self.nodes[place] = kind.over((self.at - place) as u16);
     }
+
     /// Makes the places of node memory vacant, from the builder's on. Callers have tested that the memory has these places.
     pub fn vacate(&mut self)
         requires room { 511 ≤ places_of self.old }
