@@ -1,10 +1,9 @@
 -- The file of a table, row by row, and that it loads back.
-use Rattle.std.proofs.Common.{◌≡◌, ℕ, zero, suc, ◌+◌, ◌-◌, ◌<◌, ◌≤◌, Bool, true, false, cond, not, eqb, List, [], ◌∷◌, ◌++◌, map, length, get_or, take, drop, replicate, Ok, filter, sym, refl, ap, ◌∙◌, subst, ap₂, inr, append-nil, arith, length-append, get_or-drop, lt-ltb, eqb-true, le-leb}
+use Rattle.std.proofs.Common.{◌≡◌, ℕ, zero, suc, ◌+◌, ◌-◌, ◌<◌, ◌≤◌, true, false, not, eqb, List, [], ◌∷◌, ◌++◌, map, length, get_or, take, drop, replicate, Ok, filter, sym, refl, ap, ◌∙◌, subst, ap₂, inr, append-nil, arith, length-append, get_or-drop, lt-ltb, eqb-true, le-leb}
 use mathlib.Core.List.{map-append}
 use lib.ListN.{length-map}
-use Rattle.std.specs.List.{flat_map, AllByRecursion}
-use Rattle.std.proofs.lemmas.List.Elements.{filter_more}
-use Rattle.std.proofs.ByRecursion.{All-weaker, All-from_get_or}
+use Rattle.std.specs.List.{flat_map, All}
+use Rattle.std.proofs.lemmas.List.Elements.{All-filter, All-map, All-weaker, filter_more, filter_passes, recursion_from_All}
 use Rattle.std.proofs.lemmas.List.Filters.{length-filter_both}
 use Rattle.std.proofs.lemmas.List.{flat_map_more}
 use Rattle.std.proofs.lemmas.Bool.{and_parts}
@@ -13,14 +12,14 @@ use Rattle.text.proofs.Writing.{then}
 use Rattle.table_files.specs.declared.Row.{Row as FileRow}
 use Rattle.table_files.specs.Written.{ReadsBack, RowOfWidth, fields, header_text, names, row_text}
 use Rattle.table_files.proofs.Back.{written_reads_back}
-use Rattle.book.specs.declared.notes.Book.{Book}
+use Rattle.book.specs.declared.books.Book.{Book}
 use Rattle.book.specs.declared.rows.Row.{Row}
 use Rattle.book.specs.Books.{ledger, Obeys}
 use Rattle.book.specs.Files.{LoadsBack, rows_written, table_file_verdict, to_file, write_verdict, written?}
 use Rattle.book.specs.Inner.{Sure}
 use Rattle.book.specs.Ledgers.{LawfulRow, width_of}
 use Rattle.book.specs.Rows.{absent}
-use Rattle.book.proofs.Keeping.{row_lawful, rows_counted, table_wide}
+use Rattle.book.proofs.Keeping.{items_few}
 use Rattle.book.proofs.Loading.{file_accepted}
 
 -- what is written of some rows of a table
@@ -58,41 +57,42 @@ row_of_width ws t r lawful e = record {
   sure_small = omega (arith, lawful.0.1);
 }
 
--- each row that is written of a lawful ledger
-file_rows : (ws : List ℕ) (t : ℕ) (rows : List Row) → AllByRecursion (LawfulRow ws) rows
-    → AllByRecursion (λ r. RowOfWidth (get_or ws t 0) r × Sure r) (map to_file (filter (written? t) rows))
-file_rows ws t [] lawful = tt
-file_rows ws t (r ∷ rs) lawful = go (written? t r) refl (file_rows ws t rs lawful.1)
-  where
-    Kept : List FileRow → Type 0
-    Kept = AllByRecursion (λ x. RowOfWidth (get_or ws t 0) x × Sure x)
+-- what is written of a table: rows of a file of its width, all sure enough
+abbrev Good : (ws : List ℕ) (t : ℕ) → FileRow → Type 0
+Good ws t r = RowOfWidth (get_or ws t 0) r × Sure r
 
-    go : (b : Bool) → written? t r ≡ b → Kept (map to_file (filter (written? t) rs)) → Kept (map to_file (cond b (r ∷ filter (written? t) rs) (filter (written? t) rs)))
-    go true e rest = ((row_of_width ws t r lawful.0 (eqb-true r.table t (and_parts (eqb r.table t) (not r.struck) e).0), lawful.0.0.1), rest)
-    go false e rest = rest
+-- each row that is written of a lawful ledger
+file_rows : (ws : List ℕ) (t : ℕ) (rows : List Row) → All (LawfulRow ws) rows → All (Good ws t) (rows_written t rows)
+file_rows ws t rows lawful =
+    All-map (Good ws t) to_file (filter (written? t) rows)
+    (λ k d h.
+    let l = All-filter (written? t) (LawfulRow ws) rows lawful k d h in
+    let r = get_or (filter (written? t) rows) k d in
+    let e = and_parts (eqb r.table t) (not r.struck) (filter_passes (written? t) rows k d h) in
+    (row_of_width ws t r l (eqb-true r.table t e.0), l.0.1))
 
 -- the rows of a book, as they are written of one of its tables
 module _ (b : Book) (t : ℕ) (opened : t < length (ledger b).widths) where
-  rows_good : AllByRecursion (λ x. RowOfWidth (width_of (ledger b) t) x × Sure x) (rows_written t (ledger b).rows)
-  rows_good = file_rows (ledger b).widths t (ledger b).rows (All-from_get_or (LawfulRow (ledger b).widths) (ledger b).rows absent (λ i h. row_lawful b i h))
+  rows_good : All (Good (ledger b).widths t) (rows_written t (ledger b).rows)
+  rows_good = file_rows (ledger b).widths t (ledger b).rows b.lawful
 
   pub back : ReadsBack (width_of (ledger b) t) (rows_written t (ledger b).rows)
   back =
-      let w = table_wide b t opened in
+      let w = b.wide t 0 opened in
       written_reads_back (width_of (ledger b) t) (rows_written t (ledger b).rows) w.0 w.1
-      (All-weaker (λ x. RowOfWidth (width_of (ledger b) t) x × Sure x) (RowOfWidth (width_of (ledger b) t)) (λ x p. p.0) (rows_written t (ledger b).rows) rows_good)
+      (recursion_from_All _ _ (All-weaker (Good (ledger b).widths t) (RowOfWidth (width_of (ledger b) t)) (λ x p. p.0) (rows_written t (ledger b).rows) rows_good))
 
   pub rows_few : length (rows_written t (ledger b).rows) ≤ 256
   rows_few =
       let m = length-map (filter (written? t) (ledger b).rows) to_file in
       let k = length-filter_both (written? t) (λ r. not (written? t r)) (λ _. refl) (ledger b).rows in
-      let n = rows_counted b in
-      omega (arith, b.few.1)
+      let n = items_few b.rows in
+      omega arith
 
   pub loads_back : LoadsBack (ledger b) t
   loads_back m room few =
       let r = back in
-      let sure = All-weaker (λ x. RowOfWidth (width_of (ledger b) t) x × Sure x) Sure (λ x p. p.1) (rows_written t (ledger b).rows) rows_good in
+      let sure = All-weaker (Good (ledger b).widths t) Sure (λ x p. p.1) (rows_written t (ledger b).rows) rows_good in
       let w : length (names (width_of (ledger b) t)) - 1 ≡ width_of (ledger b) t = omega (arith, r.width) in
       let n = rows_few in
       inr (

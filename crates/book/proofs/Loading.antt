@@ -5,17 +5,17 @@ use mathlib.Core.List.{map-append}
 use lib.ListN.{length-map}
 use lib.Seq.{drop-nil, get_or-append_seam}
 use borrow.Author.Tests.{lt-leb}
-use Rattle.std.specs.List.{AllByRecursion}
-use Rattle.std.proofs.ByRecursion.{All-push}
+use Rattle.std.specs.List.{All}
+use Rattle.std.proofs.lemmas.List.Elements.{All-push, All-head, All-tail}
 use Rattle.table_files.specs.declared.Fault.{Fault}
 use Rattle.table_files.specs.declared.Row.{Row as FileRow}
 use Rattle.table_files.specs.declared.Rows.{Rows}
 use Rattle.table_files.specs.declared.TableFile.{TableFile}
 use Rattle.table_files.specs.Grammar.{CR, LF, Values, File, last, ended, more}
-use Rattle.table_files.specs.Tables.{Ahead, Answer, Reads, Table, Wrong, cell, row_of}
+use Rattle.table_files.specs.Tables.{Ahead, Answer, Reads, Table, Wrong, cell, place, row_of}
 use Rattle.table_files.proofs.Faults.{answered}
 use Rattle.table_files.proofs.Reading.{one_reading}
-use Rattle.book.specs.declared.notes.Book.{Book}
+use Rattle.book.specs.declared.books.Book.{Book}
 use Rattle.book.specs.declared.refusals.Refusal.{Refusal}
 use Rattle.book.specs.declared.refusals.Refusal.TheVariants.{TablesUsedUp, RowsUsedUp}
 use Rattle.book.specs.Books.{ledger, Obeys}
@@ -27,30 +27,25 @@ use Rattle.book.specs.Rows.{billion, from_file}
 use Rattle.book.specs.Rules.{Verdict, refused, accepted, with_table, with_rows}
 use Rattle.book.proofs.Walking.{Steps, Passed, passed_here}
 
--- what holds of all holds of one in the middle
-all_middle : (xs : List FileRow) (x : FileRow) (ys : List FileRow) → AllByRecursion Sure (xs ++ (x ∷ ys)) → Sure x
-all_middle [] x ys h = h.0
-all_middle (z ∷ zs) x ys h = all_middle zs x ys h.1
-
 -- the rows before a record are sure enough
 abbrev pub SureTo : ℕ → List FileRow → Type 0
-SureTo number rows = (number ≡ 2 + length rows) × AllByRecursion Sure rows
+SureTo number rows = (number ≡ 2 + length rows) × All Sure rows
 
 pub sure_more : (number : ℕ) (row : FileRow) → Sure row → (rows : List FileRow) → SureTo number rows → SureTo (number + 1) (rows ++ (row ∷ []))
 sure_more number row s rows q = (let l = length-append rows (row ∷ []) in omega (arith, q.0), All-push Sure rows row q.1 s)
 
 -- the tests of rows that are sure enough pass
-pub all_pass : (k field : ℕ) (rows : List FileRow) (v : Verdict ℕ Ledger) → AllByRecursion Sure rows → unless_unsure k field rows v ≡ v
+pub all_pass : (k field : ℕ) (rows : List FileRow) (v : Verdict ℕ Ledger) → All Sure rows → unless_unsure k field rows v ≡ v
 all_pass k field [] v s = refl
-all_pass k field (r ∷ rs) v s = rw (le-leb r.sureness billion s.0) (all_pass (k + 1) field rs v s.1)
+all_pass k field (r ∷ rs) v s = rw (le-leb r.sureness billion (All-head Sure r rs s)) (all_pass (k + 1) field rs v (All-tail Sure r rs s))
 
 -- the first row that is not sure enough is refused
-first_unsure : (k field : ℕ) (rows : List FileRow) (row : FileRow) (rest : List FileRow) (v : Verdict ℕ Ledger) → AllByRecursion Sure rows → billion < row.sureness
+first_unsure : (k field : ℕ) (rows : List FileRow) (row : FileRow) (rest : List FileRow) (v : Verdict ℕ Ledger) → All Sure rows → billion < row.sureness
     → unless_unsure k field (rows ++ (row ∷ rest)) v ≡ refused (at 12 (k + length rows) field)
 first_unsure k field [] row rest v s high = rw (lt-leb row.sureness billion high, add-zero k)
 first_unsure k field (r ∷ rs) row rest v s high =
     let e : (k + 1) + length rs ≡ k + length (r ∷ rs) = omega arith in
-    rw (le-leb r.sureness billion s.0) (first_unsure (k + 1) field rs row rest v s.1 high ∙ ap (λ n. refused (at 12 n field)) e)
+    rw (le-leb r.sureness billion (All-head Sure r rs s)) (first_unsure (k + 1) field rs row rest v (All-tail Sure r rs s) high ∙ ap (λ n. refused (at 12 n field)) e)
 
 -- a row that is not sure enough is refused by its number
 pub unsure_here : (number field : ℕ) (from here to : Rows) (row : FileRow) → Passed (SureTo number) from here → Steps here (Some row) to → billion < row.sureness
@@ -114,15 +109,15 @@ row_fits before now table from here to row fit passed steps =
     let l = ap length h.split ∙ length-append h.done (h.values ∷ h.rest) in
     let m = ap (λ (l : Ledger). length l.rows) h.so_far ∙ length-append before.rows (map (from_file table) (map row_of h.done)) in
     let k = length-map (map row_of h.done) (from_file table) ∙ length-map h.done row_of in
-    let sure : AllByRecursion Sure (map row_of h.done ++ (row_of h.values ∷ map row_of h.rest)) = subst (AllByRecursion Sure) (ap (map row_of) h.split ∙ map-append row_of h.done (h.values ∷ h.rest)) fit.sure in (
+    let sure : All Sure (map row_of h.done ++ (row_of h.values ∷ map row_of h.rest)) = subst (All Sure) (ap (map row_of) h.split ∙ map-append row_of h.done (h.values ∷ h.rest)) fit.sure in (
       omega (arith, fit.room),
       subst (λ ws. table < length ws) (sym widths) fit.opened,
-      subst Sure (sym h.same) (all_middle (map row_of h.done) (row_of h.values) (map row_of h.rest) sure),
+      subst Sure (sym h.same) (subst Sure (get_or-append_seam (map row_of h.done) (row_of h.values) (map row_of h.rest) row) (sure (length (map row_of h.done)) row (omega (arith, length-append (map row_of h.done) (row_of h.values ∷ map row_of h.rest))))),
       subst (λ ws. Padded ws (from_file table row)) (sym widths) (subst (λ r. Padded before.widths (from_file table r)) (sym h.same) (row_padded (width_of before table) h.values h.before.3.0.0)),
     )
 
 -- a table is accepted
-pub file_accepted : (l : Ledger) (w : ℕ) (rows : List FileRow) → length l.widths < 8 → AllByRecursion Sure rows → length l.rows + length rows ≤ 256
+pub file_accepted : (l : Ledger) (w : ℕ) (rows : List FileRow) → length l.widths < 8 → All Sure rows → length l.rows + length rows ≤ 256
     → table_file_verdict l w rows ≡ accepted (length l.widths) (with_file l w rows)
 file_accepted l w rows room sure few =
     rw (lt-ltb (length l.widths) 8 room) (all_pass 2 (w + 1) rows _ sure ∙ rw (le-leb (length l.rows + length rows) 256 few))
@@ -160,13 +155,13 @@ module _ (b : Book) (text : List ℕ) (file : TableFile) (read : Answer text (Ok
     pub load_unsure : (f : Refusal) → AllSure 2 (file.width + 1) (map row_of read.1) (Err f) → Loaded b text (Err f) b
     load_unsure f unsure = refuses f (rw (lt-ltb (length (ledger b).widths) 8 room, width) (unsure _))
 
-    module _ (sure : AllByRecursion Sure (map row_of read.1)) where
+    module _ (sure : All Sure (map row_of read.1)) where
       count : length (map row_of read.1) ≡ file.count
       count = length-map read.1 row_of ∙ sym read.3.count
 
-      pub load_no_row : 256 < length (ledger b).rows + file.count → Loaded b text (Err (RowsUsedUp (258 - length (ledger b).rows) 1)) b
+      pub load_no_row : 256 < length (ledger b).rows + file.count → Loaded b text (Err (RowsUsedUp (place (258 - length (ledger b).rows) 1))) b
       load_no_row full =
-          refuses (RowsUsedUp (258 - length (ledger b).rows) 1)
+          refuses (RowsUsedUp (place (258 - length (ledger b).rows) 1))
           (rw (lt-ltb (length (ledger b).widths) 8 room) (all_pass 2 (length read.0 - 1 + 1) (map row_of read.1) _ sure
           ∙ rw (lt-leb (length (ledger b).rows + length (map row_of read.1)) 256 (omega (arith, count)))))
 

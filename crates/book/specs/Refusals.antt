@@ -17,18 +17,18 @@ at n p q = record { number = n; places = p ∷ q ∷ [] }
 -- what each refusal tells
 abbrev pub told : Refusal → Told
 told FileTooLong = at 1 0 0
-told (GrammarBroken r f) = at 2 r f
-told (HeaderUnlawful r f) = at 3 r f
-told (FieldsNotHeader r f) = at 4 r f
-told (FieldUnlawful r f) = at 5 r f
+told (GrammarBroken p) = at 2 p.«record» p.field
+told (HeaderUnlawful p) = at 3 p.«record» p.field
+told (FieldsNotHeader p) = at 4 p.«record» p.field
+told (FieldUnlawful p) = at 5 p.«record» p.field
 told WidthOutOfRange = at 6 0 0
 told TablesUsedUp = at 7 0 0
 told TableNotOpen = at 8 0 0
 told CellsNotWidth = at 9 0 0
 told NoSuchRow = at 10 0 0
 told RowStruck = at 11 0 0
-told (SurenessTooLarge r f) = at 12 r f
-told (RowsUsedUp r f) = at 13 r f
+told (SurenessTooLarge p) = at 12 p.«record» p.field
+told (RowsUsedUp p) = at 13 p.«record» p.field
 told MemoryShort = at 19 0 0
 
 -- what a fault of a table file tells

@@ -1,43 +1,46 @@
 //! Table files into the book and out of it.
-ghost use Rattle.std.specs.Prelude.{◌≡◌, ℕ, ◌+◌, ◌*◌, ◌<◌, ◌≤◌, List, ◌++◌, map, length};
-ghost use Rattle.std.specs.List.{flat_map};
-ghost use Rattle.text.specs.Over.{over};
+ghost use Rattle.std.specs.Prelude.{ℕ, ◌≤◌, List, map, length};
 ghost use Rattle.table_files.specs.Grammar.{Values};
 ghost use Rattle.table_files.specs.Tables.{Ahead, row_of};
-ghost use Rattle.table_files.specs.Written.{row_text};
-ghost use Rattle.book.specs.Books.{ledger, Obeys};
-ghost use Rattle.book.specs.Files.{LoadJudged, LoadsBack, rows_written, write_verdict};
-ghost use Rattle.book.specs.Inner.{AllSure, Fit};
-ghost use Rattle.book.specs.Ledgers.{Ledger};
-ghost use Rattle.book.specs.Rows.{from_file};
-ghost use Rattle.book.specs.Rules.{Verdict, with_rows};
+ghost use Rattle.book.specs.Inner.{AllSure};
 
-use super::notes::Book;
+use super::books::{Book, MAX_ROWS, MAX_TABLES};
 use super::refusals::Refusal;
-use super::rows::Row;
-use table_files::Rows;
+use super::rows::{MAX_SURENESS, Row};
+use table_files::{Place, Rows};
+
+// The bytes that the file of a table never passes.
+const FILE_ROOM: usize = 16_384;
 
 impl Book {
+    ghost use Rattle.std.specs.Prelude.{◌≡◌, ◌+◌, ◌*◌, ◌<◌, ◌++◌};
+    ghost use Rattle.std.specs.List.{flat_map};
+    ghost use Rattle.text.specs.Over.{over};
+    ghost use Rattle.table_files.specs.Written.{row_text};
+    ghost use Rattle.book.specs.Books.{ledger, Obeys};
+    ghost use Rattle.book.specs.Files.{LoadJudged, LoadsBack, rows_written, write_verdict};
+    ghost use Rattle.book.specs.Inner.{Fit};
+    ghost use Rattle.book.specs.Ledgers.{Ledger};
+    ghost use Rattle.book.specs.Rows.{from_file};
+    ghost use Rattle.book.specs.Rules.{Verdict, with_rows};
+
     /// Opens a table for a table file, adds its rows in file order, and answers the table's number.
     pub fn load(&mut self, file: &[u8]) -> Result<usize, Refusal>
         ensures judged { (v : Verdict ℕ Ledger) × LoadJudged (ledger self.old) file.now v × Obeys ledger v result self.old self.new }
         ensures one { (v w : Verdict ℕ Ledger) → LoadJudged (ledger self.old) file.now v → LoadJudged (ledger self.old) file.now w → v ≡ w }
     {
-        let file = match table_files::read(file) {
-            Ok(file) => file,
-            Err(fault) => return Err(Refusal::of_file(fault)),
-        };
+        let file = table_files::read(file)?;
         let table = self.widths().len();
-        if table >= 8 {
+        if table >= MAX_TABLES {
             return Err(Refusal::TablesUsedUp);
         }
         sure_rows(file.rows, file.width + 1)?;
         let given = self.rows().len();
-        if given + file.count > 256 {
-            return Err(Refusal::RowsUsedUp {
-                record: 258 - given,
+        if given + file.count > MAX_ROWS {
+            return Err(Refusal::RowsUsedUp(Place {
+                record: MAX_ROWS + 2 - given,
                 field: 1,
-            });
+            }));
         }
         self.add_table(file.width);
         self.add_rows(file.rows, table);
@@ -49,14 +52,10 @@ impl Book {
         ensures wrote { Obeys (λ bytes. bytes) (write_verdict (ledger self.now) table out.old) result out.old out.new }
         ensures back { table < length (ledger self.now).widths → LoadsBack (ledger self.now) table }
     {
-        let widths = self.widths();
-        if table >= widths.len() {
-            return Err(Refusal::TableNotOpen);
-        }
-        if out.len() < 16_384 {
+        let width = self.width(table)?;
+        if out.len() < FILE_ROOM {
             return Err(Refusal::MemoryShort);
         }
-        let width = widths[table];
         let end = table_files::put_header(width, out, 0);
         Ok(self.put_rows(table, width, out, end))
     }
@@ -99,8 +98,8 @@ fn sure_rows(rows: Rows, field: usize) -> Result<(), Refusal>
     let mut left = rows;
     let mut record = 2;
     while let Some(row) = left.next_row() {
-        if row.sureness > 1_000_000_000 {
-            return Err(Refusal::SurenessTooLarge { record, field });
+        if u64::from(row.sureness) > MAX_SURENESS {
+            return Err(Refusal::SurenessTooLarge(Place { record, field }));
         }
         record += 1;
     }

@@ -1,24 +1,31 @@
 //! A row of a table.
-ghost use Rattle.std.specs.Prelude.{◌≡◌, ◌^◌, ◌<◌, ◌≤◌, length};
-ghost use Rattle.book.specs.Files.{to_file, written?};
-ghost use Rattle.book.specs.Ledgers.{Small};
-ghost use Rattle.book.specs.Rows.{new_row, from_file};
+
+// The most columns of a table.
+pub(super) const MAX_WIDTH: usize = 4;
+
+// The highest sureness, in billionths.
+pub(super) const MAX_SURENESS: u64 = 1_000_000_000;
 
 /// A row: its table, four cell places (those past the table's width hold 0), its sureness in billionths, and whether it is struck
 /// (out of all joins).
-#[derive(Clone, Copy)]
+#[derive(Clone, Copy, PartialEq, Eq, Debug)]
 pub struct Row {
     pub table: usize,
-    pub cells: [u32; 4],
+    pub cells: [u32; MAX_WIDTH],
     pub sureness: u64,
     pub struck: bool,
 }
 
 impl Row {
+    ghost use Rattle.std.specs.Prelude.{◌≡◌, ◌^◌, ◌<◌, ◌≤◌, length};
+    ghost use Rattle.book.specs.Files.{to_file, written?};
+    ghost use Rattle.book.specs.Ledgers.{Small};
+    ghost use Rattle.book.specs.Rows.{new_row, from_file};
+
     // What stands in a place whose row number is not given yet.
     pub(super) const VACANT: Row = Row {
         table: 0,
-        cells: [0; 4],
+        cells: [0; MAX_WIDTH],
         sureness: 0,
         struck: false,
     };
@@ -28,8 +35,8 @@ impl Row {
         requires { length cells.now ≤ 4 }
         ensures { result ≡ new_row table cells.now sureness }
     {
-        let mut places = [0; 4];
-        places[0..cells.len()].copy_from_slice(cells);
+        let mut places = [0; MAX_WIDTH];
+        places[..cells.len()].copy_from_slice(cells);
         Row {
             table,
             cells: places,
@@ -44,11 +51,11 @@ impl Row {
         ensures small { Small result }
         ensures four { length result.cells ≡ 4 }
     {
-        let cells = row.cells;
+        let table_files::Row { cells, sureness } = row;
         Row {
             table,
             cells,
-            sureness: u64::from(row.sureness),
+            sureness: u64::from(sureness),
             struck: false,
         }
     }
@@ -58,9 +65,8 @@ impl Row {
         requires { self.now.sureness < 2 ^ 32 }
         ensures { result ≡ to_file self.now }
     {
-        let cells = self.cells;
         table_files::Row {
-            cells,
+            cells: self.cells,
             sureness: self.sureness as u32,
         }
     }

@@ -1,5 +1,5 @@
 //! The edges of what a book accepts.
-use super::{Book, Call, Refusal};
+use super::{Book, Call, Place, Refusal};
 use std::test::Fail;
 
 // The number of a refusal, or 0 where the call was accepted.
@@ -81,8 +81,8 @@ fn told(res: Result<usize, Refusal>) -> (usize, usize, usize) {
     let Err(refusal) = res else {
         return (0, 0, 0);
     };
-    let (first, second) = refusal.places();
-    (refusal.number(), first, second)
+    let place = refusal.place();
+    (refusal.number(), place.record, place.field)
 }
 
 #[test]
@@ -135,10 +135,10 @@ fn written(rt: HostRuntime) {
 
 #[test]
 fn refusals(rt: HostRuntime) {
-    let refusal = Refusal::GrammarBroken {
+    let refusal = Refusal::GrammarBroken(Place {
         record: 3,
         field: 2,
-    };
+    });
     let mut out = [b'.'; 128];
     let mut short = [b'.'; 127];
     assert_eq!(rt; told(refusal.write(&mut short)), (19, 0, 0));

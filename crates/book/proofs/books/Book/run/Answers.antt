@@ -1,7 +1,7 @@
 use Rattle.std.proofs.Common.{take_all, rules}
 use Rattle.book.specs.Ledgers.{empty}
 use Rattle.book.proofs.Running.{run_more, leads_one}
-use Rattle.book.proofs.notes.Book.run.Goals as goal
+use Rattle.book.proofs.books.Book.run.Goals as goal
 
 pub loop-call-preserved : goal.loop-call-preserved
 loop-call-preserved c =

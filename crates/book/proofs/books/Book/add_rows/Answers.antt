@@ -6,7 +6,7 @@ use Rattle.book.specs.Rows.{billion}
 use Rattle.book.specs.Rules.{with_rows}
 use Rattle.book.proofs.Loading.{Added, added_more, row_fits}
 use Rattle.book.proofs.Walking.{passed_one}
-use Rattle.book.proofs.notes.Book.add_rows.Goals as goal
+use Rattle.book.proofs.books.Book.add_rows.Goals as goal
 
 pub add_row-requires : goal.add_row-requires
 add_row-requires c =

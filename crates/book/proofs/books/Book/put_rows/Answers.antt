@@ -3,8 +3,8 @@ use Rattle.text.proofs.Writing.{Wrote, wrote_none, wrote_more}
 use Rattle.table_files.specs.Written.{row_text}
 use Rattle.book.specs.Rows.{absent}
 use Rattle.book.proofs.Filing.{rows_text, rows_text_same, rows_text_more}
-use Rattle.book.proofs.Keeping.{rows_counted, row_lawful}
-use Rattle.book.proofs.notes.Book.put_rows.Goals as goal
+use Rattle.book.proofs.Keeping.{items_few}
+use Rattle.book.proofs.books.Book.put_rows.Goals as goal
 
 pub loop-row-init : goal.loop-row-init
 loop-row-init c = (wrote_none c.args.out.now c.args.at (omega (arith, c.requires.room)), omega arith)
@@ -19,14 +19,15 @@ to_file-requires c =
     let b = c.args.self.now in
     let i = c.loop-row.row-index in
     let n = ap length c.rows-rows.ensures in
-    let l = (row_lawful b i (omega arith)).0.1 in
+    let l = (b.lawful i absent (omega arith)).0.1 in
     let e = ap (λ rs. (get_or rs i absent).sureness) c.rows-rows.ensures in
     omega arith
 
 pub put_row-end-requires : goal.put_row-end-requires
 put_row-end-requires c =
-    let n = ap length c.rows-rows.ensures ∙ rows_counted c.args.self.now in
-    (c.requires.narrow, omega (arith, c.requires.room, c.loop-row.invariant.1, c.args.self.now.few.1))
+    let n = ap length c.rows-rows.ensures in
+    let few = items_few c.args.self.now.rows in
+    (c.requires.narrow, omega (arith, c.requires.room, c.loop-row.invariant.1))
 
 pub loop-row-preserved : goal.loop-row-preserved
 loop-row-preserved c =

@@ -1,7 +1,7 @@
 use Rattle.std.proofs.Common.{◌+◌, ◌*◌, ◌≤◌, take}
 use Rattle.text.proofs.Writing.{Wrote}
 use Rattle.book.proofs.Filing.{rows_text}
-use Rattle.book.proofs.notes.Book.put_rows.Given as goal
+use Rattle.book.proofs.books.Book.put_rows.Given as goal
 
 abbrev pub invariant-loop-row : goal.invariant-loop-row
 invariant-loop-row l =
