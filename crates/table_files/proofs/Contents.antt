@@ -5,7 +5,8 @@ use Rattle.std.proofs.lemmas.List.{take_at}
 use Rattle.std.proofs.lemmas.Str.Parse.{digit_from_value}
 use Rattle.std.proofs.lemmas.Bool.{false≢true}
 use Rattle.table_files.specs.Grammar.{DQUOTE, NonEscaped, Inside, Field}
-use Rattle.table_files.specs.Places.{Content, Number}
+use Rattle.table_files.specs.Fields.{Content}
+use Rattle.table_files.specs.Places.{Number}
 use Rattle.table_files.specs.Tables.{Numeral, sure}
 
 -- a quote stands in the list

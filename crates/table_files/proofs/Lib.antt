@@ -9,4 +9,4 @@ pub mod Reading
 pub mod Runs
 pub mod Through
 pub mod Walking
-pub mod Writing
+pub mod Texts

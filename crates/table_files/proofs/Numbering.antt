@@ -3,10 +3,11 @@ use Rattle.std.proofs.Common.{◌≡◌, ℕ, ◌+◌, ◌-◌, ◌<◌, ◌≤�
 use Rattle.std.specs.Str.Parse.{digits_value}
 use Rattle.std.proofs.lemmas.List.{drop-drop, get_or-drop, get_or_past, get_or-set_same, get_or-set_other, get_or-take, length-set}
 use Rattle.std.proofs.lemmas.Bool.{cond_both, ltb-true, ltb-false, eqb-false, ne_eqb, cases_lt, cases_eq}
-use Rattle.table_files.specs.declared.FieldPlace.{FieldPlace}
-use Rattle.table_files.specs.declared.RecordPlaces.{RecordPlaces}
-use Rattle.table_files.specs.declared.Row.{Row}
-use Rattle.table_files.specs.Places.{Found, Holds, Within, Number, Numbers, nowhere}
+use Rattle.table_files.specs.declared.fields.FieldPlace.{FieldPlace}
+use Rattle.table_files.specs.declared.records.RecordPlaces.{RecordPlaces}
+use Rattle.table_files.specs.declared.rows.Row.{Row}
+use Rattle.table_files.specs.Fields.{Holds, Within, nowhere}
+use Rattle.table_files.specs.Places.{Found, Number, Numbers}
 use Rattle.table_files.specs.Tables.{Numeral, Rule, cell, row_of}
 
 -- the fields with these values stand at these places
@@ -134,13 +135,13 @@ module _ (values : List (List ℕ)) (ns : List ℕ) (h : Numbers values (Ok ns))
       rows e f g h i = cc
 
 -- the places of a record's fields, where there are at most five
-pub standing_found : (text : List ℕ) (values : List (List ℕ)) (records : List (List (List ℕ))) (r : RecordPlaces) → Found text values records r →
-    length values ≤ 5 → length r.places ≡ 5 → (n : ℕ) → n ≡ min r.fields 5 → Standing text (take n r.places) values
-standing_found text values records r h few room n is =
+pub standing_found : (values : List (List ℕ)) (records : List (List (List ℕ))) (r : RecordPlaces) (rest : List ℕ) → Found values records r rest →
+    length values ≤ 5 → length r.places ≡ 5 → (n : ℕ) → n ≡ min r.fields 5 → Standing r.text.now (take n r.places) values
+standing_found values records r rest h few room n is =
     let l = length-take n r.places in
     let f = h.fields in (
       omega arith,
-      λ k lk. subst (λ p. Holds text p (get_or values k [])) (sym (get_or-take n r.places k nowhere (omega arith))) (h.stand k lk (omega arith)),
+      λ k lk. subst (λ p. Holds r.text.now p (get_or values k [])) (sym (get_or-take n r.places k nowhere (omega arith))) (h.stand k lk (omega arith)),
     )
 
 pub within_take : (text : List ℕ) (places : List FieldPlace) (n : ℕ) → ((k : ℕ) → Within text (get_or places k nowhere)) →

@@ -1,3 +1,4 @@
+pub mod Fields
 pub mod Grammar
 pub mod Places
 pub mod Steps

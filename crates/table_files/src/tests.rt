@@ -1,6 +1,7 @@
 //! Lawful and unlawful texts, and tables written and read back.
 use super::*;
 use std::test::Fail;
+use text::Writer;
 
 // The number of the fault and its place; or 0, the width and the number of rows.
 fn verdict(text: &[u8]) -> (u8, usize, usize) {
@@ -67,7 +68,7 @@ fn verdicts(rt: HostRuntime) {
 
 // The numbers of the next row, or 9s.
 fn next(rows: &mut Rows) -> (u32, u32, u32, u32, u32) {
-    match rows.next_row() {
+    match rows.next() {
         Some(row) => {
             let [a, b, c, d] = row.cells;
             (a, b, c, d, row.sureness)
@@ -79,12 +80,15 @@ fn next(rows: &mut Rows) -> (u32, u32, u32, u32, u32) {
 #[test]
 fn rows_written_and_read(rt: HostRuntime) -> Result<(), Fail> {
     let mut out = [b'-'; 200];
-    let end = put_header(2, &mut out, 1);
+    let mut writer = Writer::new(&mut out);
+    writer.put(b"-");
+    put_header(2, &mut writer);
     let row = Row {
         cells: [7, 4294967295, 0, 0],
         sureness: 1000000000,
     };
-    let end = put_row(row, 2, &mut out, end);
+    put_row(row, 2, &mut writer);
+    let end = writer.place();
     assert_eq!(rt; end, 38);
     assert_eq!(rt;
         &out[..end + 1],
