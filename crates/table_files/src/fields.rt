@@ -9,7 +9,7 @@ ghost use Rattle.table_files.specs.Tables.{Numeral, sure};
 use super::reader::{Class, Reader};
 
 // Where the raw bytes of a field stand in a text.
-#[derive(Clone, Copy)]
+#[derive(Clone, Copy, PartialEq, Eq, Debug)]
 pub(super) struct FieldPlace {
     pub(super) start: usize,
     pub(super) end: usize,

@@ -23,7 +23,7 @@ pub use rows::{Row, Rows};
 pub use writing::{put_header, put_row};
 
 /// A text that is a table file: how many cells a row has, how many rows there are, and a walk over them all.
-#[derive(Clone, Copy)]
+#[derive(Clone, Copy, PartialEq, Eq, Debug)]
 pub struct TableFile<'a> {
     pub width: usize,
     pub count: usize,

@@ -6,7 +6,7 @@ ghost use Rattle.table_files.specs.Steps.{class_of, done, moved, parts};
 use super::fault::Place;
 
 // What the reader has before it or around it.
-#[derive(Clone, Copy)]
+#[derive(Clone, Copy, PartialEq, Eq, Debug)]
 pub(super) enum State {
     Before,
     Plain,
@@ -16,7 +16,7 @@ pub(super) enum State {
 }
 
 // What a byte is to the grammar.
-#[derive(Clone, Copy)]
+#[derive(Clone, Copy, PartialEq, Eq, Debug)]
 pub(super) enum Class {
     Comma,
     Quote,
@@ -42,7 +42,7 @@ impl From<u8> for Class {
 }
 
 // A reader of a text: its state, and the place that it is in.
-#[derive(Clone, Copy)]
+#[derive(Clone, Copy, PartialEq, Eq, Debug)]
 pub(super) struct Reader {
     state: State,
     place: Place,

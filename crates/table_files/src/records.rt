@@ -8,7 +8,7 @@ use super::fields::{FieldPlace, NOWHERE, field_length, field_number, is_sure};
 use super::rows::Row;
 
 // Where the fields of a record of a text stand, the first five of them, and how many there are.
-#[derive(Clone, Copy)]
+#[derive(Clone, Copy, PartialEq, Eq, Debug)]
 pub(super) struct RecordPlaces<'a> {
     text: &'a [u8],
     places: [FieldPlace; 5],
@@ -94,7 +94,7 @@ impl<'a> RecordPlaces<'a> {
 }
 
 // A walk over the records of a text, from one on.
-#[derive(Clone, Copy)]
+#[derive(Clone, Copy, PartialEq, Eq, Debug)]
 pub(super) struct Records<'a> {
     text: &'a [u8],
     at: usize,

@@ -5,14 +5,14 @@ ghost use Rattle.std.specs.Iterator.{at_most};
 use super::records::Records;
 
 /// The numbers of a row: its cells, 0 past the table's width, and its sureness.
-#[derive(Clone, Copy)]
+#[derive(Clone, Copy, PartialEq, Eq, Debug)]
 pub struct Row {
     pub cells: [u32; 4],
     pub sureness: u32,
 }
 
 /// A walk over the rows of a table file, from one on.
-#[derive(Clone, Copy)]
+#[derive(Clone, Copy, PartialEq, Eq, Debug)]
 pub struct Rows<'a> {
     records: Records<'a>,
 }
