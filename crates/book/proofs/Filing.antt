@@ -1,43 +1,30 @@
 -- The file of a table, row by row, and that it loads back.
-use Rattle.std.proofs.Common.{◌≡◌, ℕ, zero, suc, ◌+◌, ◌-◌, ◌<◌, ◌≤◌, true, false, not, eqb, List, [], ◌∷◌, ◌++◌, map, length, get_or, take, drop, replicate, Ok, filter, sym, refl, ap, ◌∙◌, subst, ap₂, inr, append-nil, arith, length-append, get_or-drop, lt-ltb, eqb-true, le-leb}
-use mathlib.Core.List.{map-append}
+use Rattle.std.proofs.Common.{Bor, ◌≡◌, ℕ, zero, suc, ◌+◌, ◌-◌, ◌<◌, ◌≤◌, not, eqb, List, [], ◌∷◌, ◌++◌, map, length, get_or, drop, replicate, filter, sym, refl, ap, ◌∙◌, subst, ap₂, inr, arith, get_or-drop, eqb-true}
 use lib.ListN.{length-map}
 use Rattle.std.specs.List.{flat_map, All}
-use Rattle.std.proofs.lemmas.List.Elements.{All-filter, All-map, All-weaker, filter_more, filter_passes, recursion_from_All}
+use Rattle.std.proofs.lemmas.List.Elements.{All-filter, All-map, All-weaker, filter_passes, recursion_from_All}
 use Rattle.std.proofs.lemmas.List.Filters.{length-filter_both}
-use Rattle.std.proofs.lemmas.List.{flat_map_more}
+use Rattle.std.proofs.lemmas.List.{flat_map_more, map_push}
 use Rattle.std.proofs.lemmas.Bool.{and_parts}
-use Rattle.text.specs.Over.{over}
-use Rattle.text.proofs.Writing.{then}
-use Rattle.table_files.specs.declared.Row.{Row as FileRow}
-use Rattle.table_files.specs.Written.{ReadsBack, RowOfWidth, fields, header_text, names, row_text}
+use Rattle.table_files.specs.declared.rows.Row.{Row as FileRow}
+use Rattle.table_files.specs.Written.{ReadsBack, RowOfWidth, fields, names, row_text}
 use Rattle.table_files.proofs.Back.{written_reads_back}
 use Rattle.book.specs.declared.books.Book.{Book}
 use Rattle.book.specs.declared.rows.Row.{Row}
-use Rattle.book.specs.Books.{ledger, Obeys}
-use Rattle.book.specs.Files.{LoadsBack, rows_written, table_file_verdict, to_file, write_verdict, written?}
+use Rattle.book.specs.Books.{ledger}
+use Rattle.book.specs.Files.{LoadsBack, rows_written, table_file_verdict, to_file, written?}
 use Rattle.book.specs.Inner.{Sure}
 use Rattle.book.specs.Ledgers.{LawfulRow, width_of}
-use Rattle.book.specs.Rows.{absent}
 use Rattle.book.proofs.Keeping.{items_few}
 use Rattle.book.proofs.Loading.{file_accepted}
 
--- what is written of some rows of a table
-abbrev pub rows_text : ℕ → ℕ → List Row → List ℕ
-rows_text w t rows = flat_map (row_text w) (rows_written t rows)
+-- what is written of some rows
+abbrev pub rows_text : ℕ → List Row → List ℕ
+rows_text w rows = flat_map (row_text w) (map to_file rows)
 
--- a row that is not written
-pub rows_text_same : (w t : ℕ) (rows : List Row) (i : ℕ) → i < length rows → written? t (get_or rows i absent) ≡ false → rows_text w t (take (i + 1) rows) ≡ rows_text w t (take i rows)
-rows_text_same w t rows i h e =
-    ap (λ rs. flat_map (row_text w) (map to_file rs)) (filter_more (written? t) rows i absent h ∙ rw e (append-nil (filter (written? t) (take i rows))))
-
--- a row that is
-pub rows_text_more : (w t : ℕ) (rows : List Row) (i : ℕ) → i < length rows → written? t (get_or rows i absent) ≡ true
-    → rows_text w t (take (i + 1) rows) ≡ rows_text w t (take i rows) ++ row_text w (to_file (get_or rows i absent))
-rows_text_more w t rows i h e =
-    ap (λ rs. flat_map (row_text w) (map to_file rs)) (filter_more (written? t) rows i absent h ∙ rw e refl)
-    ∙ ap (flat_map (row_text w)) (map-append to_file (filter (written? t) (take i rows)) (get_or rows i absent ∷ []))
-    ∙ sym (flat_map_more (row_text w) [] (map to_file (filter (written? t) (take i rows))) (to_file (get_or rows i absent)))
+-- one row more
+pub rows_text_more : (w : ℕ) (rows : List (Bor Row)) (row : Bor Row) → rows_text w (map (λ r. r.now) rows) ++ row_text w (to_file row.now) ≡ rows_text w (map (λ r. r.now) (rows ++ (row ∷ [])))
+rows_text_more w rows row = flat_map_more (row_text w) [] (map to_file (map (λ r. r.now) rows)) (to_file row.now) ∙ sym (simp map_push)
 
 zero_anywhere : (n i : ℕ) → ◌≡◌ {A = ℕ} (get_or (replicate n 0) i 0) 0
 zero_anywhere zero i = refl
@@ -101,17 +88,4 @@ module _ (b : Book) (t : ℕ) (opened : t < length (ledger b).widths) where
         r.reads (omega (arith, r.short)),
         r.table,
         sym (ap₂ (table_file_verdict m) w r.same ∙ file_accepted m (width_of (ledger b) t) (rows_written t (ledger b).rows) room sure few),
-      )
-
-  -- the whole file, from its header and its rows
-  pub file_written : (w : ℕ) → w ≡ width_of (ledger b) t → (before mid after : List ℕ) (place end : ℕ) → 16384 ≤ length before
-      → mid ≡ over before 0 (header_text w) → place ≡ 0 + length (header_text w)
-      → after ≡ over mid place (rows_text w t (ledger b).rows) → end ≡ place + length (rows_text w t (ledger b).rows)
-      → Obeys (λ bytes. bytes) (write_verdict (ledger b) t before) (Ok end) before after
-  file_written w same before mid after place end room e p f q =
-      let l = length-append (header_text w) (rows_text w t (ledger b).rows) in
-      let whole : ℕ → List ℕ = λ v. header_text v ++ rows_text v t (ledger b).rows in
-      rw (lt-ltb t (length (ledger b).widths) opened, le-leb 16384 (length before) room) (
-        ap Ok (let n : end ≡ length (whole w) = omega arith in n ∙ ap (λ v. length (whole v)) same),
-        then before mid after 0 place (header_text w) (rows_text w t (ledger b).rows) (omega arith) e p f ∙ ap (λ v. over before 0 (whole v)) same,
       )

@@ -1,8 +1,8 @@
 -- For inner contracts alone: nothing here needs to be believed.
 use Rattle.std.specs.Prelude.{◌≡◌, ℕ, ◌+◌, ◌<◌, ◌≤◌, true, false, ◌⊎◌, List, map, length, Ok, Err, Result}
 use Rattle.std.specs.List.{All}
-use Rattle.table_files.specs.declared.Row.{Row as FileRow}
-use Rattle.table_files.specs.declared.Rows.{Rows}
+use Rattle.table_files.specs.declared.rows.Row.{Row as FileRow}
+use Rattle.table_files.specs.declared.rows.Rows.{Rows}
 use Rattle.table_files.specs.Grammar.{Values}
 use Rattle.table_files.specs.Tables.{Ahead, row_of}
 use Rattle.book.specs.declared.refusals.Refusal.{Refusal}

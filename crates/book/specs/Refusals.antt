@@ -2,8 +2,8 @@
 use Rattle.std.specs.Prelude.{ℕ, List, [], ◌∷◌, ◌++◌, map, codes, decimal}
 use Rattle.book.specs.declared.refusals.Refusal.{Refusal}
 use Rattle.book.specs.declared.refusals.Refusal.TheVariants.{FileTooLong, GrammarBroken, HeaderUnlawful, FieldsNotHeader, FieldUnlawful, WidthOutOfRange, TablesUsedUp, TableNotOpen, CellsNotWidth, NoSuchRow, RowStruck, SurenessTooLarge, RowsUsedUp, MemoryShort}
-use Rattle.table_files.specs.declared.Fault.{Fault}
-use Rattle.table_files.specs.declared.Fault.TheVariants.{TooLong, Grammar, Header, FieldCount, Field}
+use Rattle.table_files.specs.declared.fault.Fault.{Fault}
+use Rattle.table_files.specs.declared.fault.Fault.TheVariants.{TooLong, Grammar, Header, FieldCount, Field}
 
 -- a refusal's number and its places
 pub record Told : Type 0 where

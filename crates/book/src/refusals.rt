@@ -1,4 +1,5 @@
 //! Why a call is refused.
+use std::error::Error;
 use std::fmt;
 use table_files::{Fault, Place};
 use text::Writer;
@@ -13,7 +14,7 @@ pub(super) const NOWHERE: Place = Place {
 };
 
 /// A refusal. Each case has a number and a place, which `number` and `place` tell.
-#[derive(Clone, Copy)]
+#[derive(Clone, Copy, PartialEq, Eq, Debug)]
 pub enum Refusal {
     /// The file passes 65,536 bytes.
     FileTooLong,
@@ -162,3 +163,5 @@ impl fmt::Display for Refusal {
         write!(f, " (record {record}, field {field})")
     }
 }
+
+impl Error for Refusal {}
