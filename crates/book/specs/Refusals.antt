@@ -1,5 +1,5 @@
 -- Refusals, as a user reads them.
-use Rattle.std.specs.Prelude.{ℕ, List, [], ◌∷◌, ◌++◌, map, codes, decimal}
+use Rattle.std.specs.Prelude.{ℕ, zero, suc, List, [], ◌∷◌, ◌++◌, map, codes, decimal}
 use Rattle.book.specs.declared.refusals.Refusal.{Refusal}
 use Rattle.book.specs.declared.refusals.Refusal.TheVariants.{FileTooLong, GrammarBroken, HeaderUnlawful, FieldsNotHeader, FieldUnlawful, WidthOutOfRange, TablesUsedUp, TableNotOpen, CellsNotWidth, NoSuchRow, RowStruck, SurenessTooLarge, RowsUsedUp, MemoryShort}
 use Rattle.table_files.specs.declared.fault.Fault.{Fault}
@@ -48,3 +48,30 @@ spaced (f ∷ g ∷ fs) = f ++ (32 ∷ spaced (g ∷ fs))
 -- the record of a refusal below its header: the number, and the places with spaces between them; lines end with CR LF
 abbrev pub refusal_text : Told → List ℕ
 refusal_text t = codes "refusal,places" ++ (13 ∷ 10 ∷ (decimal t.number ++ (44 ∷ (spaced (map decimal t.places) ++ (13 ∷ 10 ∷ [])))))
+
+-- why a call is refused, in words
+abbrev pub reason : Refusal → List ℕ
+reason FileTooLong = codes "the file passes 65536 bytes"
+reason (GrammarBroken p) = codes "the grammar of a table file is broken"
+reason (HeaderUnlawful p) = codes "the header has not 2 to 5 fields of which the last is sure"
+reason (FieldsNotHeader p) = codes "the number of fields is not the header's"
+reason (FieldUnlawful p) = codes "the field is no cell and no sureness"
+reason WidthOutOfRange = codes "the width is not 1 to 4"
+reason TablesUsedUp = codes "eight tables are open"
+reason TableNotOpen = codes "the table is not open"
+reason CellsNotWidth = codes "the number of cells is not the table's width"
+reason NoSuchRow = codes "no row has the number"
+reason RowStruck = codes "the row is struck"
+reason (SurenessTooLarge p) = codes "the sureness passes 1000000000"
+reason (RowsUsedUp p) = codes "256 row numbers would not be enough"
+reason MemoryShort = codes "the memory handed over is short"
+
+-- a place in words, where there is one
+abbrev pub place_words : List ℕ → List ℕ
+place_words (zero ∷ f ∷ []) = []
+place_words (suc r ∷ f ∷ []) = codes ": record " ++ decimal (suc r) ++ codes ", field " ++ decimal f
+place_words ps = []
+
+-- a refusal in words, with its place
+abbrev pub message : Refusal → List ℕ
+message refusal = reason refusal ++ place_words (told refusal).places

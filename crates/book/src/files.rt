@@ -10,8 +10,8 @@ use super::rows::{MAX_SURENESS, Row};
 use table_files::{Place, Rows};
 use text::Writer;
 
-// The bytes that the file of a table never passes.
-const FILE_ROOM: usize = 16_384;
+/// The bytes that the file of a table never passes.
+pub const FILE_ROOM: usize = 16_384;
 
 // The record of a file's first row: record 1 is the header.
 const FIRST_RECORD: usize = 2;

@@ -11,6 +11,7 @@ mod tests;
 
 pub use books::Book;
 pub use calls::{Answer, Call};
-pub use refusals::Refusal;
+pub use files::FILE_ROOM;
+pub use refusals::{RECORD_ROOM, Refusal};
 pub use rows::Row;
 pub use table_files::Place;

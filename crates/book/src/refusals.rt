@@ -4,8 +4,8 @@ use std::fmt;
 use table_files::{Fault, Place};
 use text::Writer;
 
-// The bytes that the record of a refusal never passes.
-const RECORD_ROOM: usize = 128;
+/// The bytes that the record of a refusal never passes.
+pub const RECORD_ROOM: usize = 128;
 
 /// No place.
 pub(super) const NOWHERE: Place = Place {
@@ -51,7 +51,7 @@ impl Refusal {
     ghost use Rattle.text.specs.Writers.{Wrote, room_of};
     ghost use Rattle.book.specs.Books.{Obeys};
     ghost use Rattle.book.specs.Files.{written_verdict};
-    ghost use Rattle.book.specs.Refusals.{told, refusal_text};
+    ghost use Rattle.book.specs.Refusals.{reason, told, refusal_text};
 
     /// The number by which a user knows the refusal.
     pub fn number(self) -> usize
@@ -88,6 +88,29 @@ impl Refusal {
             | Refusal::SurenessTooLarge(place)
             | Refusal::RowsUsedUp(place) => place,
             _ => NOWHERE,
+        }
+    }
+
+    // Why the call is refused, in words.
+    fn reason(self) -> &'static str
+        ensures { result.now ≡ reason self }
+    {
+        match self {
+            Refusal::FileTooLong => "the file passes 65536 bytes",
+            Refusal::GrammarBroken(_) => "the grammar of a table file is broken",
+            Refusal::HeaderUnlawful(_) =>
+                "the header has not 2 to 5 fields of which the last is sure",
+            Refusal::FieldsNotHeader(_) => "the number of fields is not the header's",
+            Refusal::FieldUnlawful(_) => "the field is no cell and no sureness",
+            Refusal::WidthOutOfRange => "the width is not 1 to 4",
+            Refusal::TablesUsedUp => "eight tables are open",
+            Refusal::TableNotOpen => "the table is not open",
+            Refusal::CellsNotWidth => "the number of cells is not the table's width",
+            Refusal::NoSuchRow => "no row has the number",
+            Refusal::RowStruck => "the row is struck",
+            Refusal::SurenessTooLarge(_) => "the sureness passes 1000000000",
+            Refusal::RowsUsedUp(_) => "256 row numbers would not be enough",
+            Refusal::MemoryShort => "the memory handed over is short",
         }
     }
 
@@ -139,28 +162,18 @@ impl From<Fault> for Refusal {
 }
 
 impl fmt::Display for Refusal {
+    ghost use Rattle.std.specs.Prelude.{Some};
+    ghost use Rattle.book.specs.Refusals.{message};
+
+    ghost output = { λ refusal. Some (message refusal) };
+
     fn fmt<W: fmt::Write>(&self, f: &mut fmt::Formatter<W>) -> fmt::Result {
-        f.write_str(match self {
-            Refusal::FileTooLong => "the file is too long",
-            Refusal::GrammarBroken(_) => "the file is no table file",
-            Refusal::HeaderUnlawful(_) => "the header is not one of a table",
-            Refusal::FieldsNotHeader(_) => "a record has not the header's number of fields",
-            Refusal::FieldUnlawful(_) => "a field is not lawful",
-            Refusal::WidthOutOfRange => "the width is not 1 to 4",
-            Refusal::TablesUsedUp => "all tables are open",
-            Refusal::TableNotOpen => "the table is not open",
-            Refusal::CellsNotWidth => "the number of cells is not the table's width",
-            Refusal::NoSuchRow => "no row has the number",
-            Refusal::RowStruck => "the row is struck",
-            Refusal::SurenessTooLarge(_) => "the sureness is too large",
-            Refusal::RowsUsedUp(_) => "the row numbers are used up",
-            Refusal::MemoryShort => "the memory is short",
-        })?;
-        let Place { record, field } = self.place();
-        if record == 0 {
-            return Ok(());
+        let place = self.place();
+        if place.record == 0 {
+            f.write_str(self.reason())
+        } else {
+            write!(f, "{}: {place}", self.reason())
         }
-        write!(f, " (record {record}, field {field})")
     }
 }
 
