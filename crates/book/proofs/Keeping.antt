@@ -1,14 +1,12 @@
--- What every book keeps is kept by one table more, one row more and one row changed.
-use Rattle.std.proofs.Common.{◌≡◌, ℕ, ◌-◌, ◌≤◌, List, [], ◌∷◌, ◌++◌, length, get_or, drop, replicate, sym, ap, ◌∙◌, arith, length-append, length-take-le}
+-- What every book keeps is kept by one table more and by one row more.
+use Rattle.std.proofs.Common.{◌≡◌, ℕ, ◌-◌, ◌≤◌, List, [], ◌∷◌, ◌++◌, length, drop, replicate, ap, ◌∙◌, arith, length-append, length-take-le}
 use Rattle.std.proofs.Math.ListN.{get_or-append}
-use Rattle.std.proofs.Math.Seq.{drop-append_seam}
 use Rattle.std.specs.List.{All}
 use Rattle.std.proofs.lemmas.List.{drop-replicate}
 use Rattle.std.proofs.lemmas.List.Elements.{All-weaker}
 use Rattle.lists.specs.Items.{items_of}
 use Rattle.lists.specs.declared.FixedList.{FixedList}
-use Rattle.book.specs.Rows.{new_row}
-use Rattle.book.specs.Ledgers.{LawfulRow, Padded}
+use Rattle.book.specs.Ledgers.{LawfulRow}
 use Rattle.book.specs.declared.rows.Row.{Row}
 
 -- a list in fixed memory has at most as many items as places
@@ -32,7 +30,3 @@ more_tables widths width = All-weaker (LawfulRow widths) (LawfulRow (widths ++ (
         let n = length-append widths (width ∷ []) in
         let same = get_or-append widths (width ∷ []) 0 r.table lawful.0.0 in
         ((omega arith, lawful.0.1, lawful.0.2), rw same lawful.1, lawful.2)
-
--- a new row's cells are followed by 0
-pub new_padded : (ws cs : List ℕ) (t s : ℕ) → length cs ≡ get_or ws t 0 → Padded ws (new_row t cs s)
-new_padded ws cs t s e = rw (sym e) (drop-append_seam cs (drop (length cs) (replicate 4 0)) ∙ drop-replicate (length cs) 4 0)

@@ -1,30 +1,25 @@
 -- The rows of a file, tested and added.
-use Rattle.std.proofs.Common.{◌≡◌, ℕ, zero, suc, ◌+◌, ◌-◌, ◌<◌, ◌≤◌, List, [], ◌∷◌, ◌++◌, map, length, get_or, drop, replicate, Ok, Err, Result, sym, refl, ap, ◌∙◌, subst, ap₂, inl, inr, zero-add, arith, length-append, le-ltb, lt-ltb, le-leb}
-use native.Mathlib.Nat.{zero-sub, sub-zero, suc-sub-suc}
+use Rattle.std.proofs.Common.{◌≡◌, ℕ, zero, suc, ◌+◌, ◌-◌, ◌<◌, ◌≤◌, List, [], ◌∷◌, ◌++◌, map, length, get_or, drop, replicate, Err, sym, refl, ap, ◌∙◌, subst, ap₂, inl, inr, zero-add, arith, length-append, length-drop, get_or-drop, le-ltb, lt-ltb, le-leb}
 use lib.ListN.{length-map}
-use lib.Seq.{drop-nil, get_or-append_seam}
+use Rattle.std.proofs.lemmas.Grind.{same_number_lists}
+use Rattle.std.proofs.lemmas.List.{get_or-replicate, length-replicate}
 use borrow.Author.Tests.{lt-leb}
 use Rattle.std.specs.List.{All, AllWithin, HoldsAt}
 use Rattle.std.proofs.lemmas.List.Elements.{All-head, All-tail, All-map, All-weaker, All-from_recursion}
 use Rattle.table_files.specs.declared.fault.Fault.{Fault}
 use Rattle.table_files.specs.declared.rows.Row.{Row as FileRow}
 use Rattle.table_files.specs.declared.rows.Rows.{Rows}
-use Rattle.table_files.specs.declared.TableFile.{TableFile}
-use Rattle.table_files.specs.Grammar.{CR, LF, Values, File, last, ended, more}
-use Rattle.table_files.specs.Tables.{Ahead, LawfulRow as LawfulRecord, Answer, Reads, Table, Wrong, cell, place, row_of}
+use Rattle.table_files.specs.Grammar.{Values}
+use Rattle.table_files.specs.Tables.{Ahead, LawfulRow as LawfulRecord, Reads, Table, Wrong, cell, row_of}
 use Rattle.table_files.proofs.Faults.{answered}
 use Rattle.table_files.proofs.Reading.{one_reading}
-use Rattle.book.specs.declared.books.Book.{Book}
-use Rattle.book.specs.declared.refusals.Refusal.{Refusal}
 use Rattle.book.specs.declared.rows.Row.{Row}
-use Rattle.book.specs.declared.refusals.Refusal.TheVariants.{TablesUsedUp, RowsUsedUp}
-use Rattle.book.specs.Books.{ledger, Obeys}
 use Rattle.book.specs.Files.{LoadJudged, unless_unsure, table_file_verdict, with_file}
-use Rattle.book.specs.Inner.{Fit, Sure, AllSure}
+use Rattle.book.specs.Inner.{Fit, Sure}
 use Rattle.book.specs.Ledgers.{LawfulRow, Ledger, Small, width_of}
-use Rattle.book.specs.Refusals.{at, told, fault_told}
+use Rattle.book.specs.Refusals.{at, fault_told}
 use Rattle.book.specs.Rows.{billion, from_file}
-use Rattle.book.specs.Rules.{Verdict, refused, accepted, with_table, with_rows}
+use Rattle.book.specs.Rules.{Verdict, refused, accepted, with_rows}
 
 -- the tests of rows that are sure enough pass
 pub all_pass : (k field : ℕ) (rows : List FileRow) (v : Verdict ℕ Ledger) → All Sure rows → unless_unsure k field rows v ≡ v
@@ -41,17 +36,12 @@ first_unsure k field (suc i) (r ∷ rs) v l high sure =
     rw (le-leb r.sureness billion (sure 0 r (omega arith) (omega arith)))
     (first_unsure (k + 1) field i rs v (omega arith) high (λ j d low below. sure (suc j) d (omega arith) (omega arith)) ∙ ap (λ n. refused (at 12 n field)) e)
 
--- numbers that are 0 from a place on
-zeros_past : (xs : List ℕ) (w : ℕ) → ((i : ℕ) → w ≤ i → get_or xs i 0 ≡ 0) → drop w xs ≡ replicate (length xs - w) 0
-zeros_past [] w h = rw (drop-nil {A = ℕ} w, zero-sub w)
-zeros_past (x ∷ xs) zero h =
-    ap₂ (λ y ys. y ∷ ys) (h 0 (omega arith)) (zeros_past xs zero (λ i l. h (suc i) (omega arith)) ∙ ap (λ k. replicate k 0) (sub-zero (length xs)))
-    ∙ ap (λ k. replicate k 0) (sym (sub-zero (suc (length xs))))
-zeros_past (x ∷ xs) (suc w) h = zeros_past xs w (λ i l. h (suc i) (omega arith)) ∙ ap (λ k. replicate k 0) (sym (suc-sub-suc (length xs) w))
-
 -- a row of a file has no cell past its table's width
 row_padded : (w : ℕ) (values : List (List ℕ)) → length values ≡ w + 1 → drop w (row_of values).cells ≡ replicate (4 - w) 0
-row_padded w values e = zeros_past (row_of values).cells w past
+row_padded w values e =
+    same_number_lists (drop w (row_of values).cells) (replicate (4 - w) 0) (length-drop w (row_of values).cells ∙ sym (length-replicate (4 - w) 0))
+    (λ k l. let n = length-drop w (row_of values).cells in
+    get_or-drop w (row_of values).cells k 0 ∙ past (w + k) (omega arith) ∙ sym (get_or-replicate (4 - w) k 0 0 (omega arith)))
   where
     none : (k : ℕ) → w ≤ k → cell values k ≡ 0
     none k h = rw (le-ltb (k + 1) (length values) (omega arith))
@@ -89,69 +79,13 @@ pub file_accepted : (l : Ledger) (w : ℕ) (rows : List FileRow) → length l.wi
 file_accepted l w rows room sure few =
     rw (lt-ltb (length l.widths) 8 room) (all_pass 2 (w + 1) rows _ sure ∙ rw (le-leb (length l.rows + length rows) 256 few))
 
--- a file has at most one record more than bytes
-few_records : {raw : List ℕ} {records : List Values} → File raw records → length records ≤ length raw + 1
-few_records (last r) = omega arith
-few_records (ended r) = omega arith
-few_records (more {raw} {values} {b} {rest} r f) = let h = few_records f in let l = length-append raw (CR ∷ LF ∷ b ∷ rest) in omega arith
-
--- `load` as it was judged and as it went
-abbrev pub Loaded : Book → List ℕ → Result ℕ Refusal → Book → Type 0
-Loaded before file r after = (v : Verdict ℕ Ledger) × LoadJudged (ledger before) file v × Obeys ledger v r before after
-
-pub load_faulty : (b : Book) (file : List ℕ) (fault : Fault) (f : Refusal) → Wrong file fault → told f ≡ fault_told fault → Loaded b file (Err f) b
-load_faulty b file fault f wrong e = (refused (fault_told fault), inl (fault, wrong, refl), ((f, refl, e), refl))
-
-module _ (b : Book) (text : List ℕ) (file : TableFile) (read : Answer text (Ok file)) where
-  judged : LoadJudged (ledger b) text (table_file_verdict (ledger b) (length read.0 - 1) (map row_of read.1))
-  judged = inr (read.0, read.1, read.2, read.3.table, refl)
-
-  width : length read.0 - 1 ≡ file.width
-  width = let w = read.3.width in omega arith
-
-  pub load_few : length read.1 ≤ 65536
-  load_few = let h = few_records read.2.1 in omega (arith, read.2.0)
-
-  refuses : (f : Refusal) → table_file_verdict (ledger b) (length read.0 - 1) (map row_of read.1) ≡ refused (told f) → Loaded b text (Err f) b
-  refuses f e = (_, judged, subst (λ v. Obeys ledger v (Err f) b b) (sym e) ((f, refl, refl), refl))
-
-  pub load_no_table : 8 ≤ length (ledger b).widths → Loaded b text (Err TablesUsedUp) b
-  load_no_table full = refuses TablesUsedUp (rw (le-ltb (length (ledger b).widths) 8 full))
-
-  module _ (room : length (ledger b).widths < 8) where
-    pub load_unsure : (f : Refusal) → AllSure 2 (file.width + 1) (map row_of read.1) (Err f) → Loaded b text (Err f) b
-    load_unsure f unsure = refuses f (rw (lt-ltb (length (ledger b).widths) 8 room, width) (unsure _))
-
-    module _ (sure : All Sure (map row_of read.1)) where
-      count : length (map row_of read.1) ≡ file.count
-      count = length-map read.1 row_of ∙ sym read.3.count
-
-      pub load_no_row : 256 < length (ledger b).rows + file.count → Loaded b text (Err (RowsUsedUp (place (258 - length (ledger b).rows) 1))) b
-      load_no_row full =
-          refuses (RowsUsedUp (place (258 - length (ledger b).rows) 1))
-          (rw (lt-ltb (length (ledger b).widths) 8 room) (all_pass 2 (length read.0 - 1 + 1) (map row_of read.1) _ sure
-          ∙ rw (lt-leb (length (ledger b).rows + length (map row_of read.1)) 256 (omega (arith, count)))))
-
-      pub load_done : (mid after : Book) → length (ledger b).rows + file.count ≤ 256 → ledger mid ≡ with_table (ledger b) file.width
-          → ledger after ≡ with_rows (ledger mid) ((ledger mid).rows ++ map (from_file (length (ledger b).widths)) (map row_of read.1))
-          → Loaded b text (Ok (length (ledger b).widths)) after
-      load_done mid after few e q =
-          let accepts = file_accepted (ledger b) (length read.0 - 1) (map row_of read.1) room sure (omega (arith, count)) in
-          let same = q ∙ ap (λ l. with_rows l (l.rows ++ map (from_file (length (ledger b).widths)) (map row_of read.1))) e ∙ ap (λ w. with_file (ledger b) w (map row_of read.1)) (sym width) in
-          (_, judged, subst (λ v. Obeys ledger v (Ok (length (ledger b).widths)) b after) (sym accepts) (refl, same))
-
-      pub load_fits : (mid : Book) → length (ledger b).rows + file.count ≤ 256 → ledger mid ≡ with_table (ledger b) file.width → Fit (ledger mid) (length (ledger b).widths) file.rows
-      load_fits mid few e =
-          let l = length-append (ledger b).widths (file.width ∷ []) in
-          let wide : width_of (with_table (ledger b) file.width) (length (ledger b).widths) + 1 ≡ length read.0 = rw (get_or-append_seam (ledger b).widths file.width [] 0) read.3.width in
-          subst (λ m. Fit m (length (ledger b).widths) file.rows) (sym e)
-          (record {
-            opened = omega (arith, l);
-            records = read.1;
-            ahead = subst (λ n. Ahead n file.rows read.1) (sym wide) read.3.ahead;
-            sure = sure;
-            room = omega (arith, read.3.count);
-          })
+-- there are not row numbers enough
+pub file_full : (l : Ledger) (w : ℕ) (rows : List FileRow) → length l.widths < 8 → All Sure rows → length l.rows ≤ 256 → 256 < length l.rows + length rows
+    → table_file_verdict l w rows ≡ refused (at 13 (2 + (256 - length l.rows)) 1)
+file_full l w rows room sure within full =
+    let first : 258 - length l.rows ≡ 2 + (256 - length l.rows) = omega arith in
+    rw (lt-ltb (length l.widths) 8 room)
+    (all_pass 2 (w + 1) rows _ sure ∙ rw (lt-leb (length l.rows + length rows) 256 full) (ap (λ (r : ℕ). refused (at 13 r 1)) first))
 
 -- a text with a fault is no table
 apart : (text : List ℕ) (f : Fault) → Wrong text f → (header : Values) (rows : List Values) → Reads text header rows → Table header rows → ⊥

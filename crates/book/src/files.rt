@@ -1,5 +1,5 @@
 //! Table files into the book and out of it.
-ghost use Rattle.std.specs.Prelude.{ℕ, ◌≤◌, List, map, length};
+ghost use Rattle.std.specs.Prelude.{ℕ, List, map};
 ghost use Rattle.table_files.specs.Grammar.{Values};
 ghost use Rattle.table_files.specs.Tables.{Ahead, row_of};
 ghost use Rattle.book.specs.Inner.{AllSure};
@@ -7,7 +7,7 @@ ghost use Rattle.book.specs.Inner.{AllSure};
 use super::books::{Book, MAX_ROWS, MAX_TABLES};
 use super::refusals::Refusal;
 use super::rows::{MAX_SURENESS, Row};
-use table_files::{Place, Rows};
+use table_files::{Place, Rows, TableFile};
 use text::Writer;
 
 /// The bytes that the file of a table never passes.
@@ -17,10 +17,11 @@ pub const FILE_ROOM: usize = 16_384;
 const FIRST_RECORD: usize = 2;
 
 impl Book {
-    ghost use Rattle.std.specs.Prelude.{◌≡◌, ◌+◌, ◌<◌, ◌++◌};
+    ghost use Rattle.std.specs.Prelude.{◌≡◌, ◌+◌, ◌<◌, ◌≤◌, ◌++◌, length};
     ghost use Rattle.text.specs.Writers.{Wrote, room_of};
+    ghost use Rattle.table_files.specs.Tables.{Opened};
     ghost use Rattle.book.specs.Books.{ledger, Obeys};
-    ghost use Rattle.book.specs.Files.{LoadJudged, LoadsBack, file_of, write_verdict};
+    ghost use Rattle.book.specs.Files.{LoadJudged, LoadsBack, file_of, table_file_verdict, write_verdict};
     ghost use Rattle.book.specs.Inner.{Fit, OpenWidth};
     ghost use Rattle.book.specs.Ledgers.{Ledger};
     ghost use Rattle.book.specs.Rows.{from_file};
@@ -31,16 +32,23 @@ impl Book {
         ensures judged { (v : Verdict ℕ Ledger) × LoadJudged (ledger self.old) file.now v × Obeys ledger v result self.old self.new }
         ensures one { (v w : Verdict ℕ Ledger) → LoadJudged (ledger self.old) file.now v → LoadJudged (ledger self.old) file.now w → v ≡ w }
     {
-        let file = table_files::read(file)?;
+        self.add_file(table_files::read(file)?)
+    }
+
+    // Opens a table for a table file that was read, and adds its rows.
+    fn add_file(&mut self, file: TableFile) -> Result<usize, Refusal>
+        requires { (header : Values) × (rows : List Values) × Opened header rows file }
+        ensures { (header : Values) (rows : List Values) → Opened header rows file.entry → Obeys ledger (table_file_verdict (ledger self.old) file.entry.width (map row_of rows)) result self.old self.new }
+    {
         let table = self.widths().len();
         if table >= MAX_TABLES {
             return Err(Refusal::TablesUsedUp);
         }
         sure_rows(file.rows, file.width + 1)?;
-        let given = self.rows().len();
-        if given + file.count > MAX_ROWS {
+        let left = MAX_ROWS - self.rows().len();
+        if file.count > left {
             return Err(Refusal::RowsUsedUp(Place {
-                record: FIRST_RECORD + MAX_ROWS - given,
+                record: FIRST_RECORD + left,
                 field: 1,
             }));
         }
@@ -86,9 +94,8 @@ impl Book {
     }
 }
 
-// Whether each row of a file is sure enough; else the first that is not. A file has at most 65,536 rows.
+// Whether each row of a file is sure enough; else the first that is not.
 fn sure_rows(mut rows: Rows, field: usize) -> Result<(), Refusal>
-    requires { (n : ℕ) × (records : List Values) × Ahead n rows records × (length records ≤ 65536) }
     ensures { (n : ℕ) (records : List Values) → Ahead n rows.entry records → AllSure 2 field (map row_of records) result }
 {
     match rows.position(|row| u64::from(row.sureness) > MAX_SURENESS) {

@@ -11,7 +11,7 @@ pub(super) const MAX_SURENESS: u64 = 1_000_000_000;
 #[derive(Clone, Copy, PartialEq, Eq, Debug)]
 pub struct Row {
     pub table: usize,
-    pub cells: [u32; MAX_WIDTH],
+    pub cells: [u32; 4],
     pub sureness: u64,
     pub struck: bool,
 }
@@ -25,7 +25,7 @@ impl Row {
     // What stands in a place whose row number is not given yet.
     pub(super) const VACANT: Row = Row {
         table: 0,
-        cells: [0; MAX_WIDTH],
+        cells: [0; 4],
         sureness: 0,
         struck: false,
     };
@@ -35,7 +35,7 @@ impl Row {
         requires { length cells.now ≤ 4 }
         ensures { result ≡ new_row table cells.now sureness }
     {
-        let mut places = [0; MAX_WIDTH];
+        let mut places = [0; 4];
         places[..cells.len()].copy_from_slice(cells);
         Row {
             table,
@@ -45,7 +45,7 @@ impl Row {
         }
     }
 
-    // A row of a file as a row of a table.
+    // A row of a file as a row of a table. It takes the table too, so it is no `From`.
     pub(super) fn from_file(table: usize, row: table_files::Row) -> Row
         ensures same { result ≡ from_file table row }
         ensures small { Small result }
@@ -60,7 +60,7 @@ impl Row {
         }
     }
 
-    // The row as a row of a file. A sureness has at most 32 bits.
+    // The row as a row of a file. It asks for a sureness of 32 bits, so it is no `From`.
     pub(super) fn to_file(&self) -> table_files::Row
         requires { self.now.sureness < 2 ^ 32 }
         ensures { result ≡ to_file self.now }

@@ -4,10 +4,7 @@ use std::test::Fail;
 
 // The number of a refusal, or 0 where the call was accepted.
 fn refused<T: Drop>(res: Result<T, Refusal>) -> usize {
-    match res {
-        Ok(_) => 0,
-        Err(refusal) => refusal.number(),
-    }
+    res.err().map_or(0, |refusal| refusal.number())
 }
 
 #[test]
@@ -81,8 +78,8 @@ fn told(res: Result<usize, Refusal>) -> (usize, usize, usize) {
     let Err(refusal) = res else {
         return (0, 0, 0);
     };
-    let place = refusal.place();
-    (refusal.number(), place.record, place.field)
+    let Place { record, field } = refusal.place();
+    (refusal.number(), record, field)
 }
 
 #[test]
