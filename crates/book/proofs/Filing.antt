@@ -1,9 +1,7 @@
 -- The file of a table, row by row, and that it loads back.
 use Rattle.std.proofs.Common.{Bor, ◌≡◌, ℕ, zero, suc, ◌+◌, ◌-◌, ◌<◌, ◌≤◌, not, eqb, List, [], ◌∷◌, ◌++◌, map, length, get_or, drop, replicate, filter, sym, refl, ap, ◌∙◌, subst, ap₂, inr, arith, get_or-drop, eqb-true}
-use lib.ListN.{length-map}
 use Rattle.std.specs.List.{flat_map, All}
 use Rattle.std.proofs.lemmas.List.Elements.{All-filter, All-map, All-weaker, filter_passes, recursion_from_All}
-use Rattle.std.proofs.lemmas.List.Filters.{length-filter_both}
 use Rattle.std.proofs.lemmas.List.{flat_map_more, map_push}
 use Rattle.std.proofs.lemmas.Bool.{and_parts}
 use Rattle.table_files.specs.declared.rows.Row.{Row as FileRow}
@@ -15,7 +13,6 @@ use Rattle.book.specs.Books.{ledger}
 use Rattle.book.specs.Files.{LoadsBack, rows_written, table_file_verdict, to_file, written?}
 use Rattle.book.specs.Inner.{Sure}
 use Rattle.book.specs.Ledgers.{LawfulRow, width_of}
-use Rattle.book.proofs.Keeping.{items_few}
 use Rattle.book.proofs.Loading.{file_accepted}
 
 -- what is written of some rows
@@ -69,19 +66,11 @@ module _ (b : Book) (t : ℕ) (opened : t < length (ledger b).widths) where
       written_reads_back (width_of (ledger b) t) (rows_written t (ledger b).rows) w.0 w.1
       (recursion_from_All _ _ (All-weaker (Good (ledger b).widths t) (RowOfWidth (width_of (ledger b) t)) (λ x p. p.0) (rows_written t (ledger b).rows) rows_good))
 
-  pub rows_few : length (rows_written t (ledger b).rows) ≤ 256
-  rows_few =
-      let m = length-map (filter (written? t) (ledger b).rows) to_file in
-      let k = length-filter_both (written? t) (λ r. not (written? t r)) (λ _. refl) (ledger b).rows in
-      let n = items_few b.rows in
-      omega arith
-
   pub loads_back : LoadsBack (ledger b) t
   loads_back m room few =
       let r = back in
       let sure = All-weaker (Good (ledger b).widths t) Sure (λ x p. p.1) (rows_written t (ledger b).rows) rows_good in
       let w : length (names (width_of (ledger b) t)) - 1 ≡ width_of (ledger b) t = omega (arith, r.width) in
-      let n = rows_few in
       inr (
         names (width_of (ledger b) t),
         map (fields (width_of (ledger b) t)) (rows_written t (ledger b).rows),

@@ -14,10 +14,8 @@ const FILES: [&str; 8] = [
 fn read_file(rt: &HostRuntime, path: &str) -> io::Result<Option<Vec<u8>>> {
     match fs::read(rt, path) {
         Ok(bytes) => Ok(Some(bytes)),
-        Err(error) => match error.kind() {
-            ErrorKind::NotFound => Ok(None),
-            _ => Err(error),
-        },
+        Err(error) if error.kind() == ErrorKind::NotFound => Ok(None),
+        Err(error) => Err(error),
     }
 }
 
@@ -69,10 +67,8 @@ fn print_row(rt: &HostRuntime, number: usize, row: &Row, width: usize) -> io::Re
 fn print_book(rt: &HostRuntime, book: &Book) -> io::Result<()> {
     for (table, (path, width)) in FILES.iter().zip(book.widths()).enumerate() {
         println!(rt; "{path}, width {width}")?;
-        for (number, row) in book.rows().iter().enumerate() {
-            if row.table == table {
-                print_row(rt, number, row, *width)?;
-            }
+        for (number, row) in book.rows().iter().enumerate().filter(|(_, row)| row.table == table) {
+            print_row(rt, number, row, *width)?;
         }
     }
     Ok(())
