@@ -6,6 +6,7 @@ pub mod Faults
 pub mod Numbering
 pub mod Reached
 pub mod Reading
+pub mod Results
 pub mod Runs
 pub mod Through
 pub mod Walking

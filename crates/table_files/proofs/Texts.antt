@@ -54,9 +54,6 @@ cells_length (n ∷ ns) h (suc i) =
     let o = length-append (decimal n) (COMMA ∷ []) in
     omega arith
 
-pub piece_length : (k : ℕ) → k < 10 → length (piece (column k)) ≡ 3
-piece_length k h = omega (arith, ap length (decimal_digit k h), length-append (decimal k) (COMMA ∷ []))
-
 pub header_length : (w : ℕ) → w ≤ 4 → length (header_text w) ≤ 18
 header_length w h = omega (arith, columns_length w h, length-append (flat_map piece (columns w)) (sure ++ (CR ∷ LF ∷ [])))
 

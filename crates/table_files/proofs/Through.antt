@@ -94,9 +94,6 @@ judged_checked {Post} {rows} {answer} h few right = by_answer answer h.answer
 -- a step of a walk over lawful rows
 
 module _ (n : ℕ) (walk : Rows) (rows : List (List (List ℕ))) (h : Ahead n walk rows) where
-  pub walked_none : rest_of walk.records ≡ [] → rows ≡ []
-  walked_none e = subst (λ t. Says t rows) e h.0
-
   module _ (r : RecordPlaces) (to : Records) (step : RecordStep walk.records (Some r) to) (o : Result Row ℕ)
       (row : (values : List (List ℕ)) (rest : List ℕ) (records : List (List (List ℕ))) → Found values records r rest → length values ≤ 5 → RowRead values o) where
     first_row : (values : List (List ℕ)) × (others : List (List (List ℕ))) × (rows ≡ values ∷ others) × Found values others r (rest_of to) × RowRead values o

@@ -1,11 +1,11 @@
 -- The fields of a record, one after the other.
-use Rattle.std.proofs.Common.{◌≡◌, ℕ, ◌+◌, ◌-◌, ◌<◌, ◌≤◌, min, ltb, List, [], ◌∷◌, ◌++◌, length, get_or, take, drop, set, sym, refl, ap, ◌∙◌, subst, inl, inr, append_assoc, append-nil, arith, length-drop}
-use Rattle.std.proofs.lemmas.List.{drop_all, drop_more, drop-drop, drop_at, take_at, get_or-drop, get_or-set_same, get_or-set_other, get_or_past, length-set}
-use Rattle.std.proofs.lemmas.Bool.{cond-true, cond_both, lt-ltb, cases_lt, cases_eq}
+use Rattle.std.proofs.Common.{◌≡◌, ℕ, ◌+◌, ◌-◌, ◌<◌, ◌≤◌, min, ltb, List, [], ◌∷◌, ◌++◌, length, get_or, take, drop, sym, refl, ap, ◌∙◌, subst, inl, inr, append_assoc, append-nil, arith, length-drop}
+use Rattle.std.proofs.lemmas.List.{drop_all, drop_more, drop-drop, drop_at, take_at, get_or-drop, get_or-set_same, get_or-set_other, length-set}
+use Rattle.std.proofs.lemmas.Bool.{cond-true, cond_both, lt-ltb, cases_lt}
 use Rattle.table_files.specs.declared.fields.FieldPlace.{FieldPlace}
 use Rattle.table_files.specs.declared.records.RecordPlaces.{RecordPlaces}
 use Rattle.table_files.specs.Grammar.{COMMA, CR, LF, Field, Record, File}
-use Rattle.table_files.specs.Fields.{Ends, EndsAt, nowhere, Within, Holds}
+use Rattle.table_files.specs.Fields.{Ends, EndsAt, nowhere, Holds}
 use Rattle.table_files.specs.Places.{Found, Pushed}
 use Rattle.table_files.specs.Tables.{Says}
 
@@ -119,20 +119,6 @@ module _ {ws : List (List ℕ)} {records : List (List (List ℕ))} where
   behind_line (more {rest} f) n = absurd (n rest refl)
 
 -- one more place
-
-pub pushed_within : (text : List ℕ) (places : List FieldPlace) (n : ℕ) (p : FieldPlace) → Within text p → ((k : ℕ) → Within text (get_or places k nowhere)) →
-    (k : ℕ) → Within text (get_or (set places n p) k nowhere)
-pushed_within text places n p w h k =
-    elim (cases_eq k n) [
-      | inl e ↦
-          elim (cases_lt k (length places)) [
-            | inl l ↦ subst (Within text) (sym (ap (λ m. get_or (set places m p) k nowhere) (sym e) ∙ get_or-set_same places k p nowhere l)) w
-            | inr l ↦
-                let g : length (set places n p) ≤ k = omega (arith, length-set places n p) in
-                subst (Within text) (sym (get_or_past (set places n p) k nowhere g)) (omega arith, omega arith)
-          ]
-      | inr m ↦ subst (Within text) (sym (get_or-set_other places n k p nowhere m)) (h k)
-    ]
 
 module _ {x y : RecordPlaces} {p : FieldPlace} (h : Pushed x y p) where
   pushed_here : x.fields < 5 → length x.places ≡ 5 → get_or y.places x.fields nowhere ≡ p

@@ -16,6 +16,9 @@ pub(super) struct FieldPlace {
 }
 
 impl FieldPlace {
+    // No bytes, at the start.
+    pub(super) const NOWHERE: FieldPlace = FieldPlace { start: 0, end: 0 };
+
     // What stands in the field, without the quotes around it.
     pub(super) fn content(self, text: &[u8]) -> &[u8]
         requires { Within text.now self }
@@ -25,8 +28,6 @@ impl FieldPlace {
         unquoted(&text[start..end])
     }
 }
-
-pub(super) const NOWHERE: FieldPlace = FieldPlace { start: 0, end: 0 };
 
 // The length of the field that a text begins with: up to the byte that ends it, or the end of the text.
 pub(super) fn field_length(text: &[u8]) -> usize
@@ -43,22 +44,14 @@ pub(super) fn field_length(text: &[u8]) -> usize
     text.len()
 }
 
-// Whether a field has quotes around it.
-fn is_quoted(raw: &[u8]) -> bool
-    ensures there { result ≡ true → (1 < length raw.now) × (slice_index raw.now 0 ≡ DQUOTE) }
-    ensures only { 1 < length raw.now → slice_index raw.now 0 ≡ DQUOTE → result ≡ true }
-{
-    raw.len() > 1 && raw[0] == b'"'
-}
-
 // What stands in a field, without the quotes around it.
 fn unquoted(raw: &[u8]) -> &[u8]
     ensures { (value : Bytes) → Field raw.now value → Content result.now value }
 {
-    if is_quoted(raw) {
-        return &raw[1..raw.len() - 1];
+    match raw {
+        [first, inside @ .., _] if *first == b'"' => inside,
+        _ => raw,
     }
-    raw
 }
 
 // The number that 1 to 10 digits write, if 32 bits hold it.
@@ -69,24 +62,25 @@ fn number(digits: &[u8]) -> Option<u32>
     if digits.len() > 10 {
         return None;
     }
-    let mut n = 0u64;
+    let mut n = 0u32;
     for digit in digits {
-        if *digit < b'0' || *digit > b'9' {
+        if !digit.is_ascii_digit() {
             return None;
         }
-        n = n * 10 + u64::from(*digit - b'0');
+        n = n.checked_mul(10)?.checked_add(u32::from(*digit - b'0'))?;
     }
-    if n > 4294967295 { None } else { Some(n as u32) }
+    Some(n)
 }
 
 // The number of a field, if the field keeps its rule; a blank one is 0, unless it is the last.
 pub(super) fn field_number(content: &[u8], last: bool) -> Option<u32>
     ensures { (value : Bytes) → Content content.now value → Number last value result }
 {
-    if content.len() > 0 {
-        return number(content);
+    if content.is_empty() {
+        (!last).then_some(0)
+    } else {
+        number(content)
     }
-    if last { None } else { Some(0) }
 }
 
 // Whether a name is `sure`.

@@ -66,24 +66,15 @@ pub fn read(text: &[u8]) -> Result<TableFile<'_>, Fault>
     if text.len() > 65_536 {
         return Err(Fault::TooLong);
     }
-    if let Err(place) = check(text) {
-        return Err(Fault::Grammar(place));
-    }
+    check(text).map_err(Fault::Grammar)?;
     let mut records = Records::new(text);
     let header = records.record();
-    let Some(width) = header.width() else {
-        return Err(Fault::Header(Place {
-            record: 1,
-            field: header.fields,
-        }));
-    };
-    let count = match count_rows(records, header.fields) {
-        Ok(count) => count,
-        Err(place) => return Err(Fault::FieldCount(place)),
-    };
-    if let Err(place) = check_rows(records) {
-        return Err(Fault::Field(place));
-    }
+    let width = header.width().ok_or(Fault::Header(Place {
+        record: 1,
+        field: header.fields,
+    }))?;
+    let count = count_rows(records, header.fields).map_err(Fault::FieldCount)?;
+    check_rows(records).map_err(Fault::Field)?;
     Ok(TableFile {
         width,
         count,

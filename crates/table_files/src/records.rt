@@ -4,7 +4,7 @@ ghost use Rattle.std.specs.Iterator.{at_most};
 ghost use Rattle.table_files.specs.Fields.{Within, nowhere};
 
 use super::fault::Place;
-use super::fields::{FieldPlace, NOWHERE, field_length, field_number, is_sure};
+use super::fields::{FieldPlace, field_length, field_number, is_sure};
 use super::rows::Row;
 
 // Where the fields of a record of a text stand, the first five of them, and how many there are.
@@ -17,23 +17,9 @@ pub(super) struct RecordPlaces<'a> {
     ghost some: { 0 < fields },
 }
 
-impl<'a> RecordPlaces<'a> {
+impl RecordPlaces<'_> {
     ghost use Rattle.table_files.specs.Grammar.{Bytes, Values};
     ghost use Rattle.table_files.specs.Places.{Found, Numbers, Pushed, RowRead, Width};
-
-    // A record of one field.
-    fn new(text: &'a [u8], first: FieldPlace) -> RecordPlaces<'a>
-        requires { Within text.now first }
-        ensures text { result.text.now ≡ text.now }
-        ensures places { result.places ≡ first ∷ nowhere ∷ nowhere ∷ nowhere ∷ nowhere ∷ [] }
-        ensures fields { result.fields ≡ 1 }
-    {
-        RecordPlaces {
-            text,
-            places: [first, NOWHERE, NOWHERE, NOWHERE, NOWHERE],
-            fields: 1,
-        }
-    }
 
     // One more field.
     fn push(&mut self, place: FieldPlace)
@@ -50,6 +36,7 @@ impl<'a> RecordPlaces<'a> {
     fn numbers(&self) -> Result<[u32; 5], usize>
         ensures { (values : Values) (rest : Bytes) (records : List Values) → Found values records self.now rest → length values ≤ 5 → Numbers values result }
     {
+        // The places are taken apart as first and rest, so their number is counted beside.
         let mut numbers = [0; 5];
         let mut field = 0;
         let mut left = &self.places[..self.fields.min(5)];
@@ -85,11 +72,7 @@ impl<'a> RecordPlaces<'a> {
             2..=5 => self.fields - 1,
             _ => return None,
         };
-        if is_sure(self.places[width].content(self.text)) {
-            Some(width)
-        } else {
-            None
-        }
+        is_sure(self.places[width].content(self.text)).then_some(width)
     }
 }
 
@@ -137,7 +120,17 @@ impl<'a> Records<'a> {
         ensures found { (values : Values) (records : List Values) → File (rest_of self.old) (values ∷ records) → Found values records result (rest_of self.new) }
     {
         let first = self.field();
-        let mut record = RecordPlaces::new(self.text, first);
+        let mut record = RecordPlaces {
+            text: self.text,
+            places: [
+                first,
+                FieldPlace::NOWHERE,
+                FieldPlace::NOWHERE,
+                FieldPlace::NOWHERE,
+                FieldPlace::NOWHERE,
+            ],
+            fields: 1,
+        };
         while self.text.get(self.at) == Some(&b',') {
             self.at += 1;
             record.push(self.field());
@@ -155,6 +148,7 @@ impl<'a> Records<'a> {
         requires { (r : _) → F.pre test r }
         ensures { (rows : List Values) → Says (rest_of self.entry) rows → Judged (F.post test) rows result }
     {
+        // The count is the answer too, so no adapter numbers the records.
         let mut count = 0;
         for record in self {
             if let Err(field) = test(record) {

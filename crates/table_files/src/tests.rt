@@ -85,18 +85,12 @@ fn rows_written_and_read(rt: HostRuntime) -> Result<(), Fail> {
         &out[..end + 1],
         b"-c1,c2,sure\r\n7,4294967295,1000000000\r\n-".as_slice()
     );
-    let Ok(file) = read(&out[1..end]) else {
-        assert_eq!(rt; 0, 1);
-        return Ok(());
-    };
+    let file = read(&out[1..end])?;
     assert_eq!(rt; (file.width, file.count), (2, 1));
     let mut rows = file.rows;
     assert_eq!(rt; rows.next(), Some(row([7, 4294967295, 0, 0], 1000000000)));
     assert_eq!(rt; rows.next(), None);
-    let Ok(file) = read(b"a,b,c,d,sure\r\n\"7\",,007,\"\",5\r\n1,2,3,4,\"05\"\r\n") else {
-        assert_eq!(rt; 0, 1);
-        return Ok(());
-    };
+    let file = read(b"a,b,c,d,sure\r\n\"7\",,007,\"\",5\r\n1,2,3,4,\"05\"\r\n")?;
     let mut rows = file.rows;
     assert_eq!(rt; rows.next(), Some(row([7, 0, 7, 0], 5)));
     assert_eq!(rt; rows.next(), Some(row([1, 2, 3, 4], 5)));

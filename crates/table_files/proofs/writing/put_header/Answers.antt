@@ -1,11 +1,8 @@
 use Rattle.std.proofs.Common.{◌≡◌, ◌+◌, ◌-◌, sym, subst, arith}
 use Rattle.text.proofs.Writing.{wrote_both}
-use Rattle.table_files.proofs.Texts.{Named, columns_length, named_more, wrote_nothing}
+use Rattle.table_files.proofs.Texts.{Named, columns_length, named_more}
 use Rattle.table_files.proofs.writing.put_header.Goals.{else-loop-k-test, then-loop-k-test+else-k-width}
 use Rattle.table_files.proofs.writing.put_header.Goals as goal
-
-pub loop-k-init : goal.loop-k-init
-loop-k-init c = (omega arith, omega arith, wrote_nothing c.args.writer.now (omega (arith, c.requires.1)))
 
 pub put_name-requires : goal.put_name-requires
 put_name-requires c =

@@ -6,11 +6,8 @@ use Rattle.table_files.specs.Written.{decimals, piece, row_text}
 use Rattle.table_files.proofs.Back.{written_reads_back}
 use Rattle.text.specs.Writers.{Wrote, room_of}
 use Rattle.text.proofs.Writing.{wrote_as, wrote_both}
-use Rattle.table_files.proofs.Texts.{cells_more, cells_length, decimal_short, row_length, wrote_nothing}
+use Rattle.table_files.proofs.Texts.{cells_more, cells_length, decimal_short, row_length}
 use Rattle.table_files.proofs.writing.put_row.Goals as goal
-
-pub loop-cell-init : goal.loop-cell-init
-loop-cell-init c = wrote_nothing c.args.writer.now (omega (arith, c.requires.1))
 
 pub put_cell-requires : goal.put_cell-requires
 put_cell-requires c =

@@ -1,4 +1,4 @@
-use Rattle.std.proofs.Common.{◌≡◌, ℕ, ◌+◌, ◌<◌, List, ◌∷◌, length, get_or, drop, ap, ◌∙◌, arith, rules}
+use Rattle.std.proofs.Common.{◌≡◌, ℕ, refl, ◌+◌, ◌<◌, List, ◌∷◌, length, get_or, drop, ap, ◌∙◌, arith, rules}
 use Rattle.std.proofs.lemmas.List.{drop_more}
 use Rattle.table_files.specs.Grammar.{COMMA}
 use Rattle.table_files.proofs.Walking.{going_first, going_more, going_found, comma_here, drop_least}
@@ -7,10 +7,9 @@ use Rattle.table_files.proofs.records.Records.record.Goals as goal
 pub loop-self-init : goal.loop-self-init
 loop-self-init c =
     let f = c.field-first.ensures in
-    let n = c.new-record.ensures in
     let t = f.text in
     let text = c.field-first.new.self.text.now in
-    (f.text, rw (← f.start, ← f.end) (going_first text c.field-first.result c.new-record.result (rw (f.end, f.start, f.text) f.ends) (omega (arith, f.start, f.end, f.moves)) n.text n.places n.fields))
+    (f.text, rw (← f.start, ← f.end) (going_first text c.field-first.result _ (rw (f.end, f.start, f.text) f.ends) (omega (arith, f.start, f.end, f.moves)) refl refl refl))
 
 pub loop-self-preserved : goal.loop-self-preserved
 loop-self-preserved c =
