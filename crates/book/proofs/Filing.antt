@@ -1,5 +1,5 @@
 -- The file of a table, row by row, and that it loads back.
-use Rattle.std.proofs.Common.{Bor, ◌≡◌, ℕ, zero, suc, ◌+◌, ◌-◌, ◌<◌, ◌≤◌, not, eqb, List, [], ◌∷◌, ◌++◌, map, length, get_or, drop, replicate, filter, sym, refl, ap, ◌∙◌, subst, ap₂, inr, arith, get_or-drop, eqb-true}
+use Rattle.std.proofs.Common.{Bor, ◌≡◌, ℕ, zero, suc, ◌+◌, ◌-◌, ◌<◌, not, eqb, List, [], ◌∷◌, ◌++◌, map, length, get_or, drop, replicate, filter, sym, refl, ap, ◌∙◌, subst, ap₂, inr, arith, get_or-drop, eqb-true}
 use Rattle.std.specs.List.{flat_map, All}
 use Rattle.std.proofs.lemmas.List.Elements.{All-filter, All-map, All-weaker, filter_passes, recursion_from_All}
 use Rattle.std.proofs.lemmas.List.{flat_map_more, map_push}

@@ -67,7 +67,12 @@ fn print_row(rt: &HostRuntime, number: usize, row: &Row, width: usize) -> io::Re
 fn print_book(rt: &HostRuntime, book: &Book) -> io::Result<()> {
     for (table, (path, width)) in FILES.iter().zip(book.widths()).enumerate() {
         println!(rt; "{path}, width {width}")?;
-        for (number, row) in book.rows().iter().enumerate().filter(|(_, row)| row.table == table) {
+        for (number, row) in book
+            .rows()
+            .iter()
+            .enumerate()
+            .filter(|(_, row)| row.table == table)
+        {
             print_row(rt, number, row, *width)?;
         }
     }

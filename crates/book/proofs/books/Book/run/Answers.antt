@@ -1,4 +1,3 @@
-use Rattle.std.proofs.Common.{rules}
 use Rattle.book.specs.Ledgers.{empty}
 use Rattle.book.proofs.Running.{run_more, leads_one}
 use Rattle.book.proofs.books.Book.run.Goals as goal
