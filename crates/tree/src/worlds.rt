@@ -4,6 +4,7 @@ ghost use Rattle.tree.specs.Formulas.{Form, form_rows, form_holds, ReadOnce};
 ghost use Rattle.tree.specs.Worlds.{WorldSums};
 ghost use Rattle.tree.specs.Layout.{laid, parts};
 ghost use Rattle.tree.specs.Passes.{Placed, weighing, means, EachSums, pair_under};
+ghost use Rattle.tree.specs.declared.Kind.TheVariants.{And};
 
 use super::Kind;
 use super::layout::Layout;
@@ -19,23 +20,33 @@ impl<S: Scale> Combine for (S, S) {
     ghost op = { pair_under S.Scale.ring };
 
     fn combine(self, kind: Kind, other: (S, S)) -> (S, S) {
-        let (holds, fails) = self;
-        let (also_holds, also_fails) = other;
         match kind {
-            Kind::And => (
-                holds.product(also_holds),
-                fails
-                    .product(also_holds)
-                    .sum(holds.product(also_fails).sum(fails.product(also_fails))),
-            ),
-            Kind::Or => (
-                holds
-                    .product(also_fails)
-                    .sum(fails.product(also_holds).sum(holds.product(also_holds))),
-                fails.product(also_fails),
-            ),
+            Kind::And => both(self, other),
+            Kind::Or => swapped(both(swapped(self), swapped(other))),
         }
     }
+}
+
+// What two independent parts hold with together, and fail with.
+fn both<S: Scale>(part: (S, S), other: (S, S)) -> (S, S)
+    ensures { means S.Scale.mean result ≡ pair_under S.Scale.ring And (means S.Scale.mean part) (means S.Scale.mean other) }
+{
+    let (holds, fails) = part;
+    let (also_holds, also_fails) = other;
+    (
+        holds.product(also_holds),
+        fails
+            .product(also_holds)
+            .sum(holds.product(also_fails).sum(fails.product(also_fails))),
+    )
+}
+
+// The pair of what fails where the part holds.
+fn swapped<S: Scale>(part: (S, S)) -> (S, S)
+    ensures { result ≡ (part.1, part.0) }
+{
+    let (holds, fails) = part;
+    (fails, holds)
 }
 
 /// Puts the pair of every node at its place: the summed weights of the worlds of its own rows where its formula holds, and of those
