@@ -20,12 +20,9 @@ fn read(file: &[u8]) -> (usize, u64) {
     let Ok(table) = table_files::read(file) else {
         return (0, 0);
     };
-    let mut rows = table.rows;
     let mut sum = 0u64;
-    for _ in 0..table.count {
-        if let Some(row) = rows.next_row() {
-            sum = sum.wrapping_add(u64::from(row.sureness));
-        }
+    for row in table.rows {
+        sum = sum.wrapping_add(u64::from(row.sureness));
     }
     (table.count, sum)
 }

@@ -1,7 +1,7 @@
 -- The record of a refusal, piece by piece.
 use Rattle.std.proofs.Common.{◌≡◌, ℕ, ◌≤◌, List, [], ◌∷◌, ◌++◌, map, codes, decimal, sym, ap, ◌∙◌, append_assoc}
 use Rattle.text.specs.Writers.{Wrote, room_of}
-use Rattle.text.specs.declared.writer.Writer.{Writer}
+use Rattle.text.specs.declared.Writer.{Writer}
 use Rattle.text.proofs.Writing.{wrote_both, wrote_as}
 use Rattle.book.specs.Refusals.{Told, refusal_text, spaced}
 

@@ -4,7 +4,7 @@ use Rattle.std.specs.List.{flat_map}
 use Rattle.std.proofs.lemmas.Fmt.{decimal_digit, length-decimal-le}
 use Rattle.std.proofs.lemmas.List.{flat_map_more, map_more}
 use Rattle.text.specs.Writers.{Wrote, room_of}
-use Rattle.text.specs.declared.writer.Writer.{Writer}
+use Rattle.text.specs.declared.Writer.{Writer}
 use Rattle.text.proofs.Writing.{wrote_as, wrote_both}
 use Rattle.table_files.specs.declared.rows.Row.{Row}
 use Rattle.table_files.specs.Grammar.{COMMA, CR, LF}

@@ -1,7 +1,7 @@
 -- What is written of an and or an or, child by child.
 use Rattle.std.proofs.Common.{◌≡◌, ℕ, ◌+◌, ◌<◌, ◌≤◌, Bool, List, [], ◌∷◌, ◌++◌, length, get_or, sym, ap, ◌∙◌, subst, append_assoc, append-nil, arith, length-append}
 use Rattle.text.specs.Writers.{Wrote, room_of}
-use Rattle.text.specs.declared.writer.Writer.{Writer}
+use Rattle.text.specs.declared.Writer.{Writer}
 use Rattle.text.proofs.Writing.{wrote_both, wrote_as}
 use Rattle.tree.specs.Formulas.{Formula, row, under, Form}
 use Rattle.tree.specs.declared.Kind.{Kind}
