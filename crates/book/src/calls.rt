@@ -2,6 +2,7 @@
 use super::books::Book;
 use super::refusals::Refusal;
 
+// A call is data, and no closure, since the law over all runs is about lists of calls.
 /// A call that changes a book, with its arguments.
 #[derive(Clone, Copy, PartialEq, Eq, Debug)]
 pub enum Call<'a> {

@@ -32,6 +32,7 @@ pub fn parts<G: Graph>(graph: &G, selected: MemberSet) -> Parts
 {
     let mut sets = FixedList::new(MemberSet::empty());
     let mut left = selected;
+    // A whole part leaves the set at each turn, so no iterator goes over its members.
     while let Some(x) = left.lowest() {
         let found = part(graph, left, x);
         left = left.difference(found);

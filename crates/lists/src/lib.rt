@@ -4,6 +4,7 @@
 ghost use Rattle.std.specs.Prelude.{◌≡◌, ◌≤◌, length, ⊤};
 
 use std::alloc::AllocError;
+use std::fmt;
 
 #[cfg(test)]
 mod tests;
@@ -27,6 +28,35 @@ impl<T: Copy, const N: usize> Clone for FixedList<T, N> {
 
     fn clone(&self) -> Result<FixedList<T, N>, AllocError> {
         Ok(*self)
+    }
+}
+
+/// Two lists are equal when their items are, whatever stands behind them.
+impl<T: Copy + PartialEq, const N: usize> PartialEq for FixedList<T, N> {
+    ghost use Rattle.std.specs.Cmp.{on_per};
+    ghost use Rattle.std.specs.Cmp.Lexicographic.{pointwise, lists_per};
+    ghost use Rattle.lists.specs.Items.{items_of};
+
+    ghost eq = { λ v w. pointwise T.eq (items_of v) (items_of w) };
+
+    ghost laws = { on_per (λ v. items_of v) (lists_per T.PartialEq.laws) };
+
+    fn eq(&self, other: &Self) -> bool {
+        self.as_slice() == other.as_slice()
+    }
+}
+
+impl<T: Copy + Eq, const N: usize> Eq for FixedList<T, N> {
+    ghost use Rattle.std.specs.Cmp.{on_equiv};
+    ghost use Rattle.std.specs.Cmp.Lexicographic.{lists_equiv};
+    ghost use Rattle.lists.specs.Items.{items_of};
+
+    ghost laws = { on_equiv (λ v. items_of v) (lists_equiv T.Eq.laws) };
+}
+
+impl<T: Copy + fmt::Debug, const N: usize> fmt::Debug for FixedList<T, N> {
+    fn fmt<W: fmt::Write>(&self, f: &mut fmt::Formatter<W>) -> fmt::Result {
+        f.debug_list().entries(self.as_slice()).finish()
     }
 }
 

@@ -20,6 +20,7 @@ pub fn read(text: &[u8]) -> Result<Rule, Refusal>
     let mut reader = Reader::new(text);
     reader.head()?;
     let mut rule = Rule::new();
+    // A loop like that over the terms of an atom; one function for both would take a closure for the item and one for the end.
     loop {
         rule.push(reader.atom()?);
         match reader.next_token() {

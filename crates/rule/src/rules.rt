@@ -47,7 +47,7 @@ impl Atom {
 }
 
 /// The atoms of a rule text, each of a table from 0 to 7. A text of at most 512 bytes has at most 101 of them.
-#[derive(Clone, Copy)]
+#[derive(Clone, Copy, PartialEq, Eq, Debug)]
 pub struct Rule {
     atoms: FixedList<Atom, 101>,
     ghost fit: { list_all fits (items_of atoms) ≡ true },

@@ -11,6 +11,7 @@ use super::rows::Row;
 #[derive(Clone, Copy, PartialEq, Eq, Debug)]
 pub(super) struct RecordPlaces<'a> {
     text: &'a [u8],
+    // No list: `fields` also counts the fields behind the fifth, whose places are not kept.
     places: [FieldPlace; 5],
     pub(super) fields: usize,
     ghost within: { (k : ℕ) → Within text.now (slice_index_or places k nowhere) },
