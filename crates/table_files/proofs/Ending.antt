@@ -114,10 +114,6 @@ pub record InsideField (text : List ℕ) (i : ℕ) (x : Reader) : Type 0 where
   pub stayed : Stayed (Some x)
   pub left : i + span x (drop i text) ≡ span first text
 
-pub inside_none : (text : List ℕ) → InsideField text 0 first
-inside_none text =
-    record { stayed = (refl, refl, λ e. let z : ◌≡◌ {A = ℕ} 0 1 = cc in omega arith); left = omega arith }
-
 module _ (text : List ℕ) (i : ℕ) (x : Reader) (h : InsideField text i x) where
   pub inside_all : length text ≤ i → i ≡ span first text
   inside_all l = omega (arith, h.left, ap (span x) (drop_all i text l))

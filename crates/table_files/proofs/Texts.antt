@@ -5,17 +5,11 @@ use Rattle.std.proofs.lemmas.Fmt.{decimal_digit, length-decimal-le}
 use Rattle.std.proofs.lemmas.List.{flat_map_more, map_more}
 use Rattle.text.specs.Writers.{Wrote, room_of}
 use Rattle.text.specs.declared.writer.Writer.{Writer}
-use Rattle.text.proofs.Writing.{wrote_as, wrote_both, wrote_none}
+use Rattle.text.proofs.Writing.{wrote_as, wrote_both}
 use Rattle.table_files.specs.declared.rows.Row.{Row}
 use Rattle.table_files.specs.Grammar.{COMMA, CR, LF}
 use Rattle.table_files.specs.Tables.{sure}
 use Rattle.table_files.specs.Written.{column, columns, decimals, header_text, piece, row_text}
-
--- nothing was written yet
-pub wrote_nothing : (a : Writer) → a.at ≤ room_of a → Wrote a a []
-wrote_nothing a l =
-    let w = wrote_none a.out.now a.at l in
-    record { memory = refl; room = refl; bytes = w.bytes; place = w.place }
 
 -- the names of some cells were written
 abbrev pub Named : Writer → Writer → ℕ → Type 0

@@ -27,9 +27,6 @@ pub record Through (P : List (List ℕ) → Type 0) (left : List ℕ) (count : �
   pub says : Says left (drop count rows)
   pub kept : (k : ℕ) → k < count → P (get_or rows k [])
 
-pub through_none : (P : List (List ℕ) → Type 0) (left : List ℕ) (rows : List (List (List ℕ))) → Says left rows → Through P left 0 rows
-through_none P left rows h = record { inside = omega arith; says = h; kept = λ k l. absurd (omega arith) }
-
 module _ (P : List (List ℕ) → Type 0) (from : Records) (count : ℕ) (rows : List (List (List ℕ))) (h : Through P (rest_of from) count rows) where
   module _ (r : RecordPlaces) (to : Records) (step : RecordStep from (Some r) to) where
     abbrev now : (values : List (List ℕ)) × (others : List (List (List ℕ))) × (drop count rows ≡ values ∷ others) × File (rest_of from) (values ∷ others)

@@ -49,6 +49,7 @@ next AfterCr Lf r f = Some (at Before (r + 1) 1)
 next AfterCr Text r f = None
 next AfterCr Other r f = None
 
+-- the same from where a reader is
 abbrev pub moved : Reader → Class → Option Reader
 moved x class = next x.state class x.place.«record» x.place.field
 
