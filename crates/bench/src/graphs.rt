@@ -26,6 +26,7 @@ fn graph_of<J: Fn(u8, u8) -> bool>(size: usize, joins: &J) -> StoredGraph
 }
 
 // Work on a selected set, measured on graphs of more and more members. A number comes of it.
+// One trial is made from another by `..`, which a struct with a ghost field does not take: so each call asks that the closures may be called.
 #[derive(Clone, Copy)]
 struct Trial<J, W> {
     name: &'static str,
@@ -88,7 +89,7 @@ impl<J: Fn(u8, u8) -> bool, W: Fn(&StoredGraph, MemberSet) -> usize> Trial<J, W>
         requires joins { J.IsAlwaysCallable self.now.joins }
         requires work { W.IsAlwaysCallable self.now.work }
     {
-        let mut before = 0;
+        let mut before = None;
         let mut within = true;
         for size in [64, 128, 256] {
             let graph = graph_of(size, &self.joins);
@@ -97,17 +98,19 @@ impl<J: Fn(u8, u8) -> bool, W: Fn(&StoredGraph, MemberSet) -> usize> Trial<J, W>
             println!(rt; "{}, {size} members: {answer}", self.name)?;
             let (nanos, sum) = self.measure(rt, &graph, all)?;
             eprintln!(rt; "{}, {size} members: {nanos} ns, {sum} in all", self.name)?;
-            if before > 0 {
-                let tenths = nanos.saturating_mul(10) / before;
+            let tenths = before.and_then(|before: u128| nanos
+                .saturating_mul(10)
+                .checked_div(before));
+            if let Some(tenths) = tenths {
                 eprintln!(rt;
                     "{}, per doubling: {}.{} times",
                     self.name,
                     tenths / 10,
                     tenths % 10
                 )?;
-                within = within && nanos / before < self.most;
+                within = within && tenths / 10 < self.most;
             }
-            before = nanos;
+            before = Some(nanos);
         }
         println!(rt;
             "{}, per doubling under {} times: {}",

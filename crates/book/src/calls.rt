@@ -26,6 +26,7 @@ pub enum Call<'a> {
     },
 }
 
+// No `Option` of a number: which of the two it is goes with the call.
 /// What an accepted call answers: the number of a table or a row, or only that it is done.
 #[derive(Clone, Copy, PartialEq, Eq, Debug)]
 pub enum Answer {

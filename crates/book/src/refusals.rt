@@ -7,7 +7,7 @@ use text::Writer;
 /// The bytes that the record of a refusal never passes.
 pub const RECORD_ROOM: usize = 128;
 
-// No place: records and fields are counted from 1.
+// No place: records and fields are counted from 1. No `None`, since a refusal's record has the two noughts.
 pub(super) const NOWHERE: Place = Place {
     record: 0,
     field: 0,

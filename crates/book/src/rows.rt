@@ -60,7 +60,7 @@ impl Row {
         }
     }
 
-    // The row as a row of a file. It asks for a sureness of 32 bits, so it is no `From`.
+    // The row as a row of a file. A book's rows have a sureness of 32 bits, which it asks for: so it cannot fail, and is no `TryFrom`.
     pub(super) fn to_file(&self) -> table_files::Row
         requires { self.now.sureness < 2 ^ 32 }
         ensures { result ≡ to_file self.now }

@@ -2,7 +2,7 @@
 use super::{Book, Call, Place, Refusal};
 use std::test::Fail;
 
-// The number of a refusal, or 0 where the call was accepted.
+// The number by which a user knows a refusal, or 0, which none has, where the call was accepted.
 fn refused<T: Drop>(res: Result<T, Refusal>) -> usize {
     res.err().map_or(0, |refusal| refusal.number())
 }
@@ -73,7 +73,7 @@ fn changes(rt: HostRuntime) -> Result<(), Fail> {
     Ok(())
 }
 
-// The number and the places of a refusal, or noughts where the call was accepted.
+// The number and the place of a refusal as its record has them, or noughts where the call was accepted.
 fn told(res: Result<usize, Refusal>) -> (usize, usize, usize) {
     let Err(refusal) = res else {
         return (0, 0, 0);

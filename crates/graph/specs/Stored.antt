@@ -1,4 +1,4 @@
--- The relation that a table of neighbours stores, and what joining a set does to it.
+-- The relation that rows of neighbours store, and what joining a set does to it.
 use Rattle.std.specs.Prelude.{ℕ, Bool, List, not, ◌&&◌, ◌||◌, ◌==◌, slice_index_or}
 use Rattle.graph.specs.Members.{member, nothing}
 use Rattle.graph.specs.declared.sets.MemberSet.{MemberSet}

@@ -5,7 +5,7 @@ use lists::FixedList;
 /// Up to 256 sets.
 pub type Parts = FixedList<MemberSet, 256>;
 
-// It stands apart from the function `split`: no two names of a module may differ in the case of their letters alone.
+// `Split` stands apart from the function `split`: no two names of a module may differ in the case of their letters alone.
 /// How a set of members splits.
 #[derive(Clone, Copy, PartialEq, Eq, Debug)]
 pub enum Split {

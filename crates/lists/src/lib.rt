@@ -9,6 +9,7 @@ use std::fmt;
 #[cfg(test)]
 mod tests;
 
+// The library's `ArrayVec` is not `Copy`, and does not say what the places behind its items hold.
 /// Up to `N` items, one after the other.
 #[derive(Drop)]
 pub struct FixedList<T, const N: usize> {
@@ -19,6 +20,7 @@ pub struct FixedList<T, const N: usize> {
     ghost within: { len ≤ N },
 }
 
+// `Clone` is not derived for a struct that has a ghost field and a type parameter.
 impl<T: Copy, const N: usize> Copy for FixedList<T, N> {}
 
 impl<T: Copy, const N: usize> Clone for FixedList<T, N> {
@@ -54,6 +56,7 @@ impl<T: Copy + Eq, const N: usize> Eq for FixedList<T, N> {
     ghost laws = { on_equiv (λ v. items_of v) (lists_equiv T.Eq.laws) };
 }
 
+/// The items are printed, and not what stands behind them.
 impl<T: Copy + fmt::Debug, const N: usize> fmt::Debug for FixedList<T, N> {
     fn fmt<W: fmt::Write>(&self, f: &mut fmt::Formatter<W>) -> fmt::Result {
         f.debug_list().entries(self.as_slice()).finish()

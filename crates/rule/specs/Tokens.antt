@@ -1,4 +1,4 @@
--- Where a token stands.
+-- Where a token stands, and how long it is.
 use Rattle.std.specs.Prelude.{ℕ, length}
 use Rattle.rule.specs.declared.tokens.Token.{Token}
 use Rattle.rule.specs.declared.tokens.Token.TheVariants.{Table, Variable, Constant, Open, Close, Comma, Other, End}

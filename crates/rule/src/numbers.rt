@@ -11,6 +11,7 @@ const MOST_DIGITS: usize = 10;
 // The largest number that a constant writes.
 const LARGEST: u64 = 4294967295;
 
+// 64 bits hold each number before it is tested, so that one test serves the digits and the number.
 // Whether a constant of so many digits and that number is lawful.
 fn is_lawful(count: usize, number: u64) -> bool
     ensures { result ≡ (nat_le count 10 && nat_le number 4294967295) }

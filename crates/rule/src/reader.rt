@@ -7,7 +7,7 @@ use super::refusal::Refusal;
 use super::rules::{Atom, Term};
 use super::tokens::{Class, Token, run_of};
 
-// A text, and the place from which it is read on.
+// A text, and the place from which it is read on. Nothing of what is read here is read of table files, so no reader is shared.
 #[derive(Drop)]
 pub(super) struct Reader<'a> {
     text: &'a [u8],

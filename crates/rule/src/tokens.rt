@@ -58,6 +58,7 @@ pub(super) fn run_of(text: &[u8], class: Class) -> usize
 // A token with the place of its first byte; a table, a variable and a constant with their bytes too.
 #[derive(Clone, Copy, PartialEq, Eq, Debug)]
 pub(super) enum Token<'a> {
+    // Each case has its place, so that a match has it beside the bytes.
     Table(&'a [u8], usize),
     Variable(&'a [u8], usize),
     Constant(&'a [u8], usize),

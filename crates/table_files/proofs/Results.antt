@@ -1,4 +1,4 @@
--- What a value was before it was named an error.
+-- What `map_err` and `ok_or` say of the value before them.
 use Rattle.std.proofs.Common.{◌≡◌, ℕ, Some, None, Ok, Err, Option, Result, sym, refl, ap, ◌∙◌, arith}
 use Rattle.std.specs.Option.{ok_or}
 use Rattle.std.specs.Result.{MatchResult, IsErrAnd}

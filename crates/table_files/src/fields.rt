@@ -54,6 +54,7 @@ fn unquoted(raw: &[u8]) -> &[u8]
     }
 }
 
+// A constant of a rule text has the same digits, but is refused at one of them.
 // The number that 1 to 10 digits write, if 32 bits hold it.
 fn number(digits: &[u8]) -> Option<u32>
     requires { 0 < length digits.now }

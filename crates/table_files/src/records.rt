@@ -37,7 +37,7 @@ impl RecordPlaces<'_> {
     fn numbers(&self) -> Result<[u32; 5], usize>
         ensures { (values : Values) (rest : Bytes) (records : List Values) → Found values records self.now rest → length values ≤ 5 → Numbers values result }
     {
-        // The places are taken apart as first and rest, so their number is counted beside.
+        // By a rule of the project the places are taken apart as first and rest, so their number is counted beside.
         let mut numbers = [0; 5];
         let mut field = 0;
         let mut left = &self.places[..self.fields.min(5)];

@@ -75,8 +75,7 @@ fn row(cells: [u32; 4], sureness: u32) -> Row {
 #[test]
 fn rows_written_and_read(rt: HostRuntime) -> Result<(), Fail> {
     let mut out = [b'-'; 200];
-    let mut writer = Writer::new(&mut out);
-    writer.put(b"-");
+    let mut writer = Writer::starting_at(&mut out, 1);
     put_header(2, &mut writer);
     put_row(row([7, 4294967295, 0, 0], 1000000000), 2, &mut writer);
     let end = writer.place();

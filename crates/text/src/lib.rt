@@ -3,6 +3,7 @@
 
 ghost use Rattle.std.specs.Prelude.{◌≡◌, ◌+◌, ◌≤◌, length, decimal};
 
+// No `fmt::Write`: a formatter may fail, and here each caller has shown that there is room.
 /// Writes texts into lent bytes, one after the other.
 #[derive(Drop)]
 pub struct Writer<'a> {
@@ -20,7 +21,16 @@ impl<'a> Writer<'a> {
         ensures bytes { result.out.now ≡ out.old }
         ensures place { result.at ≡ 0 }
     {
-        Writer { out, at: 0 }
+        Writer::starting_at(out, 0)
+    }
+
+    /// A writer that begins at a place.
+    pub fn starting_at(out: &'a mut [u8], place: usize) -> Writer<'a>
+        ensures memory { result.out.ghost_name ≡ out.entry.ghost_name }
+        ensures bytes { result.out.now ≡ out.old }
+        ensures place { result.at ≡ place }
+    {
+        Writer { out, at: place }
     }
 
     /// The number of bytes up to the writer's place.
@@ -51,6 +61,7 @@ impl<'a> Writer<'a> {
         }
         self.put(&[b'0' + (number % 10) as u8]);
     }
+
     /// Writes numbers in decimal digits, with a byte between two of them. The caller has shown that they fit.
     pub fn put_numbers(&mut self, numbers: &[usize], gap: u8)
         requires { self.old.at + length (numbers_text gap numbers.now) ≤ room_of self.old }

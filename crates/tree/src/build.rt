@@ -1,6 +1,7 @@
 //! Building: the nodes of a formula are written into lent memory, children before the node over them.
 use super::{Kind, Node, PLACES};
 
+// No `text::Writer`: a place that was kept is written after those behind it.
 /// Lays out formulas in lent node memory, one after the other.
 #[derive(Drop)]
 pub struct Builder<'a> {

@@ -22,6 +22,8 @@ pub trait Combine: Copy {
         ensures { mean result ≡ op kind (mean self) (mean other) };
 }
 
+// Values are lent apart from the nodes, and a place is a number: so each call asks that they fit together.
+
 // The value of the and or the or at a place, whose children are worked out: theirs combined, first to last.
 fn gathered<V: Combine>(layout: Layout, values: &[V], kind: Kind, at: usize, size: usize) -> V
     requires inside { at < length layout.nodes.now }

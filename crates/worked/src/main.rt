@@ -29,7 +29,7 @@ impl Worked<'_> {
         println!(rt; "")
     }
 
-    // Each scale has memory of its own for the pairs: an array of a type parameter could be too large.
+    // Each scale has memory of its own for the pairs: an array of a type parameter could be too large, and lent memory would be made here for each all the same.
     fn print_counts(self, rt: &HostRuntime) -> io::Result<()> {
         let ones = [Count::new(1); 5];
         let mut pairs = [(Count::new(0), Count::new(0)); 9];
