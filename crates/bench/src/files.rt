@@ -1,6 +1,6 @@
 //! Reading a table file of nearly 65,536 bytes, against a plain copy of the same bytes.
+use crate::{timed, yes_or_no};
 use std::io;
-use std::time::Instant;
 
 const HEADER: &[u8] = b"c1,c2,c3,c4,sure\r\n";
 
@@ -15,49 +15,63 @@ fn full_size(rt: &HostRuntime) -> io::Result<Vec<u8>> {
     Ok(file)
 }
 
-// The number of rows, and their sureness summed, each row walked.
-fn read(file: &[u8]) -> (usize, u64) {
-    let Ok(table) = table_files::read(file) else {
-        return (0, 0);
-    };
-    let mut rows = table.rows;
+// The number of rows, and their sureness summed, each row walked; none where the file is refused.
+fn read(file: &[u8]) -> Option<(usize, u64)> {
+    let table = table_files::read(file).ok()?;
     let mut sum = 0u64;
-    for _ in 0..table.count {
-        if let Some(row) = rows.next_row() {
-            sum = sum.wrapping_add(u64::from(row.sureness));
-        }
+    for row in table.rows {
+        sum = sum.wrapping_add(u64::from(row.sureness));
     }
-    (table.count, sum)
+    Some((table.count, sum))
 }
 
 // The shortest of 20 measures, in nanoseconds, of reading the file and of copying it; and what the copies hold, so that no copy is left out.
-fn measure(rt: &HostRuntime, file: &[u8]) -> io::Result<(u128, u128, usize)> {
-    let mut reading = u128::MAX;
-    let mut copying = u128::MAX;
-    let mut held = 0usize;
-    for _ in 0..20 {
-        let start = Instant::now(rt)?;
-        held = held.wrapping_add(read(file).0);
-        reading = reading.min(start.elapsed(rt)?.as_nanos());
-        let mut copy = Vec::with_capacity(rt.alloc(), file.len())?;
-        let start = Instant::now(rt)?;
-        copy.extend_from_slice(file)?;
-        copying = copying.min(start.elapsed(rt)?.as_nanos());
-        held = held.wrapping_add(copy.len());
+#[derive(Clone, Copy)]
+struct Times {
+    reading: u128,
+    copying: u128,
+    held: usize,
+}
+
+impl Times {
+    fn measure(rt: &HostRuntime, file: &[u8]) -> io::Result<Times> {
+        let mut times = Times {
+            reading: u128::MAX,
+            copying: u128::MAX,
+            held: 0,
+        };
+        for _ in 0..20 {
+            let (nanos, answer) = timed(rt, || read(file))?;
+            times.reading = times.reading.min(nanos);
+            let mut copy = Vec::with_capacity(rt.alloc(), file.len())?;
+            let (nanos, copied) = timed(rt, || copy.extend_from_slice(file))?;
+            copied?;
+            times.copying = times.copying.min(nanos);
+            let rows = answer.map_or(0, |(rows, _)| rows);
+            times.held = times.held.wrapping_add(rows).wrapping_add(copy.len());
+        }
+        Ok(times)
     }
-    Ok((reading, copying, held))
 }
 
 pub(crate) fn run(rt: &HostRuntime) -> io::Result<()> {
     let file = full_size(rt)?;
     let bytes = file.len();
-    let (rows, sum) = read(&file);
+    let Some((rows, sum)) = read(&file) else {
+        return println!(rt; "file of {bytes} bytes: refused");
+    };
     println!(rt; "file of {bytes} bytes: {rows} rows, sureness {sum} in all")?;
-    let (reading, copying, held) = measure(rt, &file)?;
+    let Times {
+        reading,
+        copying,
+        held,
+    } = Times::measure(rt, &file)?;
     let times = reading / copying.max(1);
     eprintln!(rt;
         "file of {bytes} bytes: read in {reading} ns, copied in {copying} ns, {times} times as long, {held} held"
     )?;
-    let word = if times < 10_000 { "yes" } else { "no" };
-    println!(rt; "reading takes under 10000 times a copy: {word}")
+    println!(rt;
+        "reading takes under 10000 times a copy: {}",
+        yes_or_no(times < 10_000)
+    )
 }

@@ -1,44 +1,27 @@
 -- The file of a table, row by row, and that it loads back.
-use Rattle.std.proofs.Common.{◌≡◌, ℕ, zero, suc, ◌+◌, ◌-◌, ◌<◌, ◌≤◌, Bool, true, false, cond, not, eqb, List, [], ◌∷◌, ◌++◌, map, length, get_or, take, drop, replicate, Ok, filter, sym, refl, ap, ◌∙◌, subst, ap₂, inr, append-nil, arith, length-append, get_or-drop, lt-ltb, eqb-true, le-leb}
-use mathlib.Core.List.{map-append}
-use lib.ListN.{length-map}
-use Rattle.std.specs.List.{flat_map, AllByRecursion}
-use Rattle.std.proofs.lemmas.List.Elements.{filter_more}
-use Rattle.std.proofs.ByRecursion.{All-weaker, All-from_get_or}
-use Rattle.std.proofs.lemmas.List.Filters.{length-filter_both}
-use Rattle.std.proofs.lemmas.List.{flat_map_more}
+use Rattle.std.proofs.Common.{Bor, ◌≡◌, ℕ, zero, suc, ◌+◌, ◌-◌, ◌<◌, not, eqb, List, [], ◌∷◌, ◌++◌, map, length, get_or, drop, replicate, filter, sym, refl, ap, ◌∙◌, subst, ap₂, inr, arith, get_or-drop, eqb-true}
+use Rattle.std.specs.List.{flat_map, All}
+use Rattle.std.proofs.lemmas.List.Elements.{All-filter, All-map, All-weaker, filter_passes, recursion_from_All}
+use Rattle.std.proofs.lemmas.List.{flat_map_more, map_push}
 use Rattle.std.proofs.lemmas.Bool.{and_parts}
-use Rattle.text.specs.Over.{over}
-use Rattle.text.proofs.Writing.{then}
-use Rattle.table_files.specs.declared.Row.{Row as FileRow}
-use Rattle.table_files.specs.Written.{ReadsBack, RowOfWidth, fields, header_text, names, row_text}
+use Rattle.table_files.specs.declared.rows.Row.{Row as FileRow}
+use Rattle.table_files.specs.Written.{ReadsBack, RowOfWidth, fields, names, row_text}
 use Rattle.table_files.proofs.Back.{written_reads_back}
-use Rattle.book.specs.declared.notes.Book.{Book}
+use Rattle.book.specs.declared.books.Book.{Book}
 use Rattle.book.specs.declared.rows.Row.{Row}
-use Rattle.book.specs.Books.{ledger, Obeys}
-use Rattle.book.specs.Files.{LoadsBack, rows_written, table_file_verdict, to_file, write_verdict, written?}
+use Rattle.book.specs.Books.{ledger}
+use Rattle.book.specs.Files.{LoadsBack, rows_written, table_file_verdict, to_file, written?}
 use Rattle.book.specs.Inner.{Sure}
 use Rattle.book.specs.Ledgers.{LawfulRow, width_of}
-use Rattle.book.specs.Rows.{absent}
-use Rattle.book.proofs.Keeping.{row_lawful, rows_counted, table_wide}
 use Rattle.book.proofs.Loading.{file_accepted}
 
--- what is written of some rows of a table
-abbrev pub rows_text : ℕ → ℕ → List Row → List ℕ
-rows_text w t rows = flat_map (row_text w) (rows_written t rows)
+-- what is written of some rows
+abbrev pub rows_text : ℕ → List Row → List ℕ
+rows_text w rows = flat_map (row_text w) (map to_file rows)
 
--- a row that is not written
-pub rows_text_same : (w t : ℕ) (rows : List Row) (i : ℕ) → i < length rows → written? t (get_or rows i absent) ≡ false → rows_text w t (take (i + 1) rows) ≡ rows_text w t (take i rows)
-rows_text_same w t rows i h e =
-    ap (λ rs. flat_map (row_text w) (map to_file rs)) (filter_more (written? t) rows i absent h ∙ rw e (append-nil (filter (written? t) (take i rows))))
-
--- a row that is
-pub rows_text_more : (w t : ℕ) (rows : List Row) (i : ℕ) → i < length rows → written? t (get_or rows i absent) ≡ true
-    → rows_text w t (take (i + 1) rows) ≡ rows_text w t (take i rows) ++ row_text w (to_file (get_or rows i absent))
-rows_text_more w t rows i h e =
-    ap (λ rs. flat_map (row_text w) (map to_file rs)) (filter_more (written? t) rows i absent h ∙ rw e refl)
-    ∙ ap (flat_map (row_text w)) (map-append to_file (filter (written? t) (take i rows)) (get_or rows i absent ∷ []))
-    ∙ sym (flat_map_more (row_text w) [] (map to_file (filter (written? t) (take i rows))) (to_file (get_or rows i absent)))
+-- one row more
+pub rows_text_more : (w : ℕ) (rows : List (Bor Row)) (row : Bor Row) → rows_text w (map (λ r. r.now) rows) ++ row_text w (to_file row.now) ≡ rows_text w (map (λ r. r.now) (rows ++ (row ∷ [])))
+rows_text_more w rows row = flat_map_more (row_text w) [] (map to_file (map (λ r. r.now) rows)) (to_file row.now) ∙ sym (simp map_push)
 
 zero_anywhere : (n i : ℕ) → ◌≡◌ {A = ℕ} (get_or (replicate n 0) i 0) 0
 zero_anywhere zero i = refl
@@ -58,60 +41,40 @@ row_of_width ws t r lawful e = record {
   sure_small = omega (arith, lawful.0.1);
 }
 
--- each row that is written of a lawful ledger
-file_rows : (ws : List ℕ) (t : ℕ) (rows : List Row) → AllByRecursion (LawfulRow ws) rows
-    → AllByRecursion (λ r. RowOfWidth (get_or ws t 0) r × Sure r) (map to_file (filter (written? t) rows))
-file_rows ws t [] lawful = tt
-file_rows ws t (r ∷ rs) lawful = go (written? t r) refl (file_rows ws t rs lawful.1)
-  where
-    Kept : List FileRow → Type 0
-    Kept = AllByRecursion (λ x. RowOfWidth (get_or ws t 0) x × Sure x)
+-- what is written of a table: rows of a file of its width, all sure enough
+abbrev Good : (ws : List ℕ) (t : ℕ) → FileRow → Type 0
+Good ws t r = RowOfWidth (get_or ws t 0) r × Sure r
 
-    go : (b : Bool) → written? t r ≡ b → Kept (map to_file (filter (written? t) rs)) → Kept (map to_file (cond b (r ∷ filter (written? t) rs) (filter (written? t) rs)))
-    go true e rest = ((row_of_width ws t r lawful.0 (eqb-true r.table t (and_parts (eqb r.table t) (not r.struck) e).0), lawful.0.0.1), rest)
-    go false e rest = rest
+-- each row that is written of a lawful ledger
+file_rows : (ws : List ℕ) (t : ℕ) (rows : List Row) → All (LawfulRow ws) rows → All (Good ws t) (rows_written t rows)
+file_rows ws t rows lawful =
+    All-map (Good ws t) to_file (filter (written? t) rows)
+    (λ k d h.
+    let l = All-filter (written? t) (LawfulRow ws) rows lawful k d h in
+    let r = get_or (filter (written? t) rows) k d in
+    let e = and_parts (eqb r.table t) (not r.struck) (filter_passes (written? t) rows k d h) in
+    (row_of_width ws t r l (eqb-true r.table t e.0), l.0.1))
 
 -- the rows of a book, as they are written of one of its tables
 module _ (b : Book) (t : ℕ) (opened : t < length (ledger b).widths) where
-  rows_good : AllByRecursion (λ x. RowOfWidth (width_of (ledger b) t) x × Sure x) (rows_written t (ledger b).rows)
-  rows_good = file_rows (ledger b).widths t (ledger b).rows (All-from_get_or (LawfulRow (ledger b).widths) (ledger b).rows absent (λ i h. row_lawful b i h))
+  rows_good : All (Good (ledger b).widths t) (rows_written t (ledger b).rows)
+  rows_good = file_rows (ledger b).widths t (ledger b).rows b.lawful
 
   pub back : ReadsBack (width_of (ledger b) t) (rows_written t (ledger b).rows)
   back =
-      let w = table_wide b t opened in
+      let w = b.wide t 0 opened in
       written_reads_back (width_of (ledger b) t) (rows_written t (ledger b).rows) w.0 w.1
-      (All-weaker (λ x. RowOfWidth (width_of (ledger b) t) x × Sure x) (RowOfWidth (width_of (ledger b) t)) (λ x p. p.0) (rows_written t (ledger b).rows) rows_good)
-
-  pub rows_few : length (rows_written t (ledger b).rows) ≤ 256
-  rows_few =
-      let m = length-map (filter (written? t) (ledger b).rows) to_file in
-      let k = length-filter_both (written? t) (λ r. not (written? t r)) (λ _. refl) (ledger b).rows in
-      let n = rows_counted b in
-      omega (arith, b.few.1)
+      (recursion_from_All _ _ (All-weaker (Good (ledger b).widths t) (RowOfWidth (width_of (ledger b) t)) (λ x p. p.0) (rows_written t (ledger b).rows) rows_good))
 
   pub loads_back : LoadsBack (ledger b) t
   loads_back m room few =
       let r = back in
-      let sure = All-weaker (λ x. RowOfWidth (width_of (ledger b) t) x × Sure x) Sure (λ x p. p.1) (rows_written t (ledger b).rows) rows_good in
+      let sure = All-weaker (Good (ledger b).widths t) Sure (λ x p. p.1) (rows_written t (ledger b).rows) rows_good in
       let w : length (names (width_of (ledger b) t)) - 1 ≡ width_of (ledger b) t = omega (arith, r.width) in
-      let n = rows_few in
       inr (
         names (width_of (ledger b) t),
         map (fields (width_of (ledger b) t)) (rows_written t (ledger b).rows),
         r.reads (omega (arith, r.short)),
         r.table,
         sym (ap₂ (table_file_verdict m) w r.same ∙ file_accepted m (width_of (ledger b) t) (rows_written t (ledger b).rows) room sure few),
-      )
-
-  -- the whole file, from its header and its rows
-  pub file_written : (w : ℕ) → w ≡ width_of (ledger b) t → (before mid after : List ℕ) (place end : ℕ) → 16384 ≤ length before
-      → mid ≡ over before 0 (header_text w) → place ≡ 0 + length (header_text w)
-      → after ≡ over mid place (rows_text w t (ledger b).rows) → end ≡ place + length (rows_text w t (ledger b).rows)
-      → Obeys (λ bytes. bytes) (write_verdict (ledger b) t before) (Ok end) before after
-  file_written w same before mid after place end room e p f q =
-      let l = length-append (header_text w) (rows_text w t (ledger b).rows) in
-      let whole : ℕ → List ℕ = λ v. header_text v ++ rows_text v t (ledger b).rows in
-      rw (lt-ltb t (length (ledger b).widths) opened, le-leb 16384 (length before) room) (
-        ap Ok (let n : end ≡ length (whole w) = omega arith in n ∙ ap (λ v. length (whole v)) same),
-        then before mid after 0 place (header_text w) (rows_text w t (ledger b).rows) (omega arith) e p f ∙ ap (λ v. over before 0 (whole v)) same,
       )

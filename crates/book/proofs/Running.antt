@@ -1,12 +1,13 @@
 -- Calls one after the other.
-use Rattle.std.proofs.Common.{◌≡◌, ℕ, ◌+◌, ◌<◌, List, [], ◌∷◌, ◌++◌, length, get_or, take, Result, sym, ap, ◌∙◌, subst}
+use Rattle.std.proofs.Common.{◌≡◌, ℕ, ◌+◌, ◌<◌, List, [], ◌∷◌, ◌++◌, length, get_or, take, Ok, Err, Result, sym, ap, ◌∙◌, subst}
+use Rattle.std.specs.Result.{MatchResult, IsOkAnd}
 use Rattle.std.proofs.lemmas.List.{take_more}
-use Rattle.book.specs.declared.notes.Book.{Book}
+use Rattle.book.specs.declared.books.Book.{Book}
 use Rattle.book.specs.declared.refusals.Refusal.{Refusal}
-use Rattle.book.specs.declared.runs.Answer.{Answer}
-use Rattle.book.specs.declared.runs.Answer.TheVariants.{Number}
-use Rattle.book.specs.declared.runs.Call.{Call}
-use Rattle.book.specs.declared.runs.Call.TheVariants.{Table, Row, Reweigh, Strike, Load}
+use Rattle.book.specs.declared.calls.Answer.{Answer}
+use Rattle.book.specs.declared.calls.Answer.TheVariants.{Number}
+use Rattle.book.specs.declared.calls.Call.{Call}
+use Rattle.book.specs.declared.calls.Call.TheVariants.{Table, Row, Reweigh, Strike, Load}
 use Rattle.book.specs.Books.{ledger, Obeys}
 use Rattle.book.specs.Ledgers.{Ledger, empty}
 use Rattle.book.specs.Rules.{Verdict, refused, accepted, left_by}
@@ -17,6 +18,15 @@ use Rattle.book.proofs.Loading.{load_one}
 obeyed : {A : Type 0} (v : Verdict A Ledger) (r : Result A Refusal) (before after : Book) → Obeys ledger v r before after → ledger after ≡ left_by (ledger before) v
 obeyed (refused t) r before after h = ap ledger h.1
 obeyed (accepted a l) r before after h = h.1
+
+-- a call whose answer is put another way, as `map` does it
+pub answered : {A B : Type 0} (f : A → B) {P : A → B → Type 0} (v : Verdict A Ledger) (r : Result A Refusal) (s : Result B Refusal) (before after : Book)
+    → ((a : A) (b : B) → P a b → b ≡ f a) → MatchResult r (λ a. IsOkAnd s (P a)) (λ e. s ≡ Err e) → Obeys ledger v r before after → Obeys ledger (answering f v) s before after
+answered f (refused t) (Ok a) s before after same m ((e, is, tells), stays) = absurd cc
+answered f (refused t) (Err d) s before after same m ((e, is, tells), stays) = (let n : d ≡ e = cc in (e, m ∙ ap Err n, tells), stays)
+answered f (accepted a l) (Ok c) (Ok b) before after same m (is, stays) = let n : c ≡ a = cc in (ap Ok (same c b m ∙ ap f n), stays)
+answered f (accepted a l) (Ok c) (Err d) before after same m h = elim m [ ]
+answered f (accepted a l) (Err d) s before after same m (is, stays) = absurd cc
 
 -- one call after the others
 leads_on : (from m to : Ledger) (cs : List Call) (c : Call) (v : Verdict Answer Ledger) → Leads from cs m → Judged m c v → to ≡ left_by m v → Leads from (cs ++ (c ∷ [])) to

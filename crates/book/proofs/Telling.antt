@@ -1,18 +1,12 @@
 -- The record of a refusal, piece by piece.
-use Rattle.std.proofs.Common.{◌≡◌, ℕ, ◌^◌, ◌<◌, ◌≤◌, List, [], ◌∷◌, ◌++◌, map, length, Ok, codes, decimal, sym, ap, ◌∙◌, append_assoc, arith, le-leb}
-use Rattle.std.proofs.lemmas.Fmt.{length-decimal-le}
-use Rattle.text.specs.Over.{over}
-use Rattle.text.proofs.Writing.{Wrote}
-use Rattle.book.specs.Books.{Obeys}
-use Rattle.book.specs.Files.{written_verdict}
+use Rattle.std.proofs.Common.{◌≡◌, ℕ, ◌≤◌, List, [], ◌∷◌, ◌++◌, map, codes, decimal, sym, ap, ◌∙◌, append_assoc}
+use Rattle.text.specs.Writers.{Wrote, room_of}
+use Rattle.text.specs.declared.Writer.{Writer}
+use Rattle.text.proofs.Writing.{wrote_both, wrote_as}
 use Rattle.book.specs.Refusals.{Told, refusal_text, spaced}
 
--- a number of 64 bits has at most 20 digits
-pub decimal_short : (n : ℕ) → n < 2 ^ 64 → length (decimal n) ≤ 20
-decimal_short n h = length-decimal-le 20 n (omega arith) (omega arith) h
-
 -- the pieces in the order in which they are written
-abbrev pub pieces : ℕ → ℕ → ℕ → List ℕ
+abbrev pieces : ℕ → ℕ → ℕ → List ℕ
 pieces n p q = (((((codes "refusal,places\r\n" ++ decimal n) ++ (44 ∷ [])) ++ decimal p) ++ (32 ∷ [])) ++ decimal q) ++ (13 ∷ 10 ∷ [])
 
 -- the record, from its two numbers on
@@ -26,9 +20,10 @@ pieces_join t n p q e f =
     ∙ ap (below t.number) (sym (append_assoc (decimal p) (32 ∷ decimal q) (13 ∷ 10 ∷ [])))
     ∙ ap (λ ps. below t.number (spaced (map decimal ps) ++ (13 ∷ 10 ∷ []))) (sym f))
 
-pub record_written : (t : Told) (n p q : ℕ) (before after : List ℕ) (end : ℕ) → n ≡ t.number → t.places ≡ p ∷ q ∷ [] → 128 ≤ length before
-    → Wrote before 0 (pieces n p q) after end → Obeys (λ bytes. bytes) (written_verdict 128 (refusal_text t) before) (Ok end) before after
-record_written t n p q before after end e f room w =
-    let same = pieces_join t n p q e f in
-    let l = ap length same in
-    rw (le-leb 128 (length before) room) (ap Ok (omega (arith, w.place)), w.bytes ∙ ap (over before 0) same)
+-- the pieces were written one after the other
+pub record_written : (t : Told) {a b c d e f g h : Writer} {n p q : ℕ} → n ≡ t.number → t.places ≡ p ∷ q ∷ [] → a.at ≤ room_of a
+    → Wrote a b (codes "refusal,places\r\n") → Wrote b c (decimal n) → Wrote c d (44 ∷ []) → Wrote d e (decimal p) → Wrote e f (32 ∷ []) → Wrote f g (decimal q)
+    → Wrote g h (13 ∷ 10 ∷ []) → Wrote a h (refusal_text t)
+record_written t {n} {p} {q} number places at ab bc cd de ef fg gh =
+    wrote_as (pieces_join t n p q number places)
+    (wrote_both (wrote_both (wrote_both (wrote_both (wrote_both (wrote_both ab bc at) cd at) de at) ef at) fg at) gh at)

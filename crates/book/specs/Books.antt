@@ -1,14 +1,15 @@
 -- The ledger of a book, and what a call on a book promises.
-use Rattle.std.specs.Prelude.{◌≡◌, take, Ok, Err, Result}
-use Rattle.book.specs.declared.notes.Book.{Book}
+use Rattle.std.specs.Prelude.{◌≡◌, Ok, Err, Result}
+use Rattle.book.specs.declared.books.Book.{Book}
 use Rattle.book.specs.declared.refusals.Refusal.{Refusal}
+use Rattle.lists.specs.Items.{items_of}
 use Rattle.book.specs.Ledgers.{Ledger}
 use Rattle.book.specs.Refusals.{told}
 use Rattle.book.specs.Rules.{Verdict, refused, accepted}
 
 -- the ledger of a book
 abbrev pub ledger : Book → Ledger
-ledger b = record { widths = take b.tables b.widths; rows = take b.given b.rows }
+ledger b = record { widths = items_of b.widths; rows = items_of b.rows }
 
 -- A call obeys its verdict: a refusal that tells just this leaves everything as it was; else the call gives the answer, and
 -- what there is afterwards is, seen as the verdict sees it, what the verdict says.

@@ -1,7 +1,7 @@
 -- Table files into a ledger and out of it.
 use Rattle.std.specs.Prelude.{◌≡◌, ℕ, ◌+◌, ◌-◌, ◌<◌, ◌≤◌, Bool, not, ◌&&◌, ◌⊎◌, List, [], ◌∷◌, ◌++◌, map, length, filter, ◌==◌, nat_le, nat_lt}
-use Rattle.table_files.specs.declared.Fault.{Fault}
-use Rattle.table_files.specs.declared.Row.{Row as FileRow}
+use Rattle.table_files.specs.declared.fault.Fault.{Fault}
+use Rattle.table_files.specs.declared.rows.Row.{Row as FileRow}
 use Rattle.table_files.specs.Grammar.{Values}
 use Rattle.table_files.specs.Written.{table_text}
 use Rattle.table_files.specs.Tables.{Reads, Wrong, Table, row_of}

@@ -1,5 +1,7 @@
 -- The ledger: what a book holds, as the calls' arguments make it.
 use Rattle.std.specs.Prelude.{◌≡◌, ℕ, ◌-◌, ◌<◌, ◌≤◌, List, [], length, drop, replicate, slice_index, slice_index_or}
+use Rattle.lists.specs.Items.{items_of, rest_of}
+use Rattle.lists.specs.declared.FixedList.{FixedList}
 use Rattle.book.specs.declared.rows.Row.{Row}
 use Rattle.book.specs.Rows.{billion, vacant, absent}
 
@@ -41,6 +43,6 @@ abbrev pub LawfulRow : (widths : List ℕ) → Row → Type 0
 LawfulRow widths r = Within (length widths) r × Padded widths r × Small r
 
 -- the places past the open tables and past the rows given are vacant
-abbrev pub VacantBeyond : (widths : List ℕ) (tables : ℕ) (rows : List Row) (given : ℕ) → Type 0
-VacantBeyond widths tables rows given =
-    (drop tables widths ≡ replicate (8 - tables) 0) × (drop given rows ≡ replicate (256 - given) vacant)
+abbrev pub VacantBeyond : FixedList ℕ 8 → FixedList Row 256 → Type 0
+VacantBeyond widths rows =
+    (rest_of widths ≡ replicate (8 - length (items_of widths)) 0) × (rest_of rows ≡ replicate (256 - length (items_of rows)) vacant)

@@ -1,6 +1,6 @@
 -- Rows as the ledger keeps them.
 use Rattle.std.specs.Prelude.{ℕ, true, false, List, [], ◌++◌, length, drop, replicate}
-use Rattle.table_files.specs.declared.Row.{Row as FileRow}
+use Rattle.table_files.specs.declared.rows.Row.{Row as FileRow}
 use Rattle.book.specs.declared.rows.Row.{Row}
 
 -- the highest sureness, in billionths

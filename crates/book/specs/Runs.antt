@@ -1,9 +1,9 @@
 -- Calls as data, and the ledger of a list of calls.
 use Rattle.std.specs.Prelude.{◌≡◌, ℕ, List, [], ◌∷◌}
-use Rattle.book.specs.declared.runs.Answer.{Answer}
-use Rattle.book.specs.declared.runs.Answer.TheVariants.{Number, Done}
-use Rattle.book.specs.declared.runs.Call.{Call}
-use Rattle.book.specs.declared.runs.Call.TheVariants.{Table, Row, Reweigh, Strike, Load}
+use Rattle.book.specs.declared.calls.Answer.{Answer}
+use Rattle.book.specs.declared.calls.Answer.TheVariants.{Number, Done}
+use Rattle.book.specs.declared.calls.Call.{Call}
+use Rattle.book.specs.declared.calls.Call.TheVariants.{Table, Row, Reweigh, Strike, Load}
 use Rattle.book.specs.Files.{LoadJudged}
 use Rattle.book.specs.Ledgers.{Ledger, empty}
 use Rattle.book.specs.Rules.{Verdict, refused, accepted, left_by, table_verdict, row_verdict, reweigh_verdict, strike_verdict}

@@ -1,12 +1,14 @@
 //! A row of a table.
-ghost use Rattle.std.specs.Prelude.{◌≡◌, ◌^◌, ◌<◌, ◌≤◌, length};
-ghost use Rattle.book.specs.Files.{to_file, written?};
-ghost use Rattle.book.specs.Ledgers.{Small};
-ghost use Rattle.book.specs.Rows.{new_row, from_file};
+
+// The most columns of a table.
+pub(super) const MAX_WIDTH: usize = 4;
+
+// The highest sureness, in billionths.
+pub(super) const MAX_SURENESS: u64 = 1_000_000_000;
 
 /// A row: its table, four cell places (those past the table's width hold 0), its sureness in billionths, and whether it is struck
 /// (out of all joins).
-#[derive(Clone, Copy)]
+#[derive(Clone, Copy, PartialEq, Eq, Debug)]
 pub struct Row {
     pub table: usize,
     pub cells: [u32; 4],
@@ -15,6 +17,11 @@ pub struct Row {
 }
 
 impl Row {
+    ghost use Rattle.std.specs.Prelude.{◌≡◌, ◌^◌, ◌<◌, ◌≤◌, length};
+    ghost use Rattle.book.specs.Files.{to_file, written?};
+    ghost use Rattle.book.specs.Ledgers.{Small};
+    ghost use Rattle.book.specs.Rows.{new_row, from_file};
+
     // What stands in a place whose row number is not given yet.
     pub(super) const VACANT: Row = Row {
         table: 0,
@@ -29,7 +36,7 @@ impl Row {
         ensures { result ≡ new_row table cells.now sureness }
     {
         let mut places = [0; 4];
-        places[0..cells.len()].copy_from_slice(cells);
+        places[..cells.len()].copy_from_slice(cells);
         Row {
             table,
             cells: places,
@@ -38,29 +45,28 @@ impl Row {
         }
     }
 
-    // A row of a file as a row of a table.
+    // A row of a file as a row of a table. It takes the table too, so it is no `From`.
     pub(super) fn from_file(table: usize, row: table_files::Row) -> Row
         ensures same { result ≡ from_file table row }
         ensures small { Small result }
         ensures four { length result.cells ≡ 4 }
     {
-        let cells = row.cells;
+        let table_files::Row { cells, sureness } = row;
         Row {
             table,
             cells,
-            sureness: u64::from(row.sureness),
+            sureness: u64::from(sureness),
             struck: false,
         }
     }
 
-    // The row as a row of a file. A sureness has at most 32 bits.
+    // The row as a row of a file. A book's rows have a sureness of 32 bits, which it asks for: so it cannot fail, and is no `TryFrom`.
     pub(super) fn to_file(&self) -> table_files::Row
         requires { self.now.sureness < 2 ^ 32 }
         ensures { result ≡ to_file self.now }
     {
-        let cells = self.cells;
         table_files::Row {
-            cells,
+            cells: self.cells,
             sureness: self.sureness as u32,
         }
     }

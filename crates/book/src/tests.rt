@@ -1,13 +1,10 @@
 //! The edges of what a book accepts.
-use super::{Book, Call, Refusal};
+use super::{Book, Call, Place, Refusal};
 use std::test::Fail;
 
-// The number of a refusal, or 0 where the call was accepted.
+// The number by which a user knows a refusal, or 0, which none has, where the call was accepted.
 fn refused<T: Drop>(res: Result<T, Refusal>) -> usize {
-    match res {
-        Ok(_) => 0,
-        Err(refusal) => refusal.number(),
-    }
+    res.err().map_or(0, |refusal| refusal.number())
 }
 
 #[test]
@@ -76,13 +73,13 @@ fn changes(rt: HostRuntime) -> Result<(), Fail> {
     Ok(())
 }
 
-// The number and the places of a refusal, or noughts where the call was accepted.
+// The number and the place of a refusal as its record has them, or noughts where the call was accepted.
 fn told(res: Result<usize, Refusal>) -> (usize, usize, usize) {
     let Err(refusal) = res else {
         return (0, 0, 0);
     };
-    let (first, second) = refusal.places();
-    (refusal.number(), first, second)
+    let Place { record, field } = refusal.place();
+    (refusal.number(), record, field)
 }
 
 #[test]
@@ -135,10 +132,10 @@ fn written(rt: HostRuntime) {
 
 #[test]
 fn refusals(rt: HostRuntime) {
-    let refusal = Refusal::GrammarBroken {
+    let refusal = Refusal::GrammarBroken(Place {
         record: 3,
         field: 2,
-    };
+    });
     let mut out = [b'.'; 128];
     let mut short = [b'.'; 127];
     assert_eq!(rt; told(refusal.write(&mut short)), (19, 0, 0));

@@ -1,9 +1,9 @@
 -- What a list of parts tells: one part is a connected set, and two or more fall apart. Assumes nothing.
 use Rattle.std.proofs.Common.{◌≡◌, ℕ, ◌<◌, ◌≤◌, Bool, true, false, ◌≢◌, inl, inr, arith}
-use Rattle.std.proofs.lemmas.Bool.{cases_eq, cases_order, cases_Bool, both_ways}
+use Rattle.std.proofs.lemmas.Bool.{false_from_ne_true, cases_eq, cases_order, cases_Bool, both_ways}
 use Rattle.graph.specs.Answers.{FallsCoapart}
 use Rattle.graph.specs.Graphs.{IsGraph, complement}
-use Rattle.graph.specs.Laws.{untrue, co_from, complement_graph}
+use Rattle.graph.specs.Laws.{co_from}
 use Rattle.graph.specs.Members.{tally}
 use Rattle.graph.specs.Splitting.{Reaches, onward, Connected, ListsParts, FallsApart}
 use Rattle.graph.proofs.Paths.{reached_in, and_then, back}
@@ -50,7 +50,7 @@ module _ {size : ℕ} {joined : ℕ → ℕ → Bool} (G : IsGraph size joined) 
 
   across : (i j x y : ℕ) → i < count → j < count → i ≢ j → part i x ≡ true → part j y ≡ true → joined x y ≡ false
   across i j x y li lj n px py =
-      untrue _ (λ k. n (once i j y li lj (((L.each i li).2 y).1 (onward (((L.each i li).2 x).0 px) k (from_set j y lj py))) py))
+      false_from_ne_true _ (λ k. n (once i j y li lj (((L.each i li).2 y).1 (onward (((L.each i li).2 x).0 px) k (from_set j y lj py))) py))
 
   -- two parts or more: the set falls apart
   pub falls_apart : ((x : ℕ) → set x ≡ true → x < size) → 2 ≤ count → FallsApart joined set count part
@@ -69,19 +69,17 @@ module _ {size : ℕ} {joined : ℕ → ℕ → Bool} (G : IsGraph size joined) 
           let m = from_set j x o.1 t.1.0 in
           let small = among x m in
           let few = G.few in
-          tally_less (part i) set x 256 (λ y p. from_set i y l p) (omega arith) (untrue _ (λ p. o.2 (once i j x l o.1 p t.1.0))) m
+          tally_less (part i) set x 256 (λ y p. from_set i y l p) (omega arith) (false_from_ne_true _ (λ p. o.2 (once i j x l o.1 p t.1.0))) m
 
 -- in the complement: members of different parts are joined in the graph
 pub falls_coapart : {size : ℕ} {joined : ℕ → ℕ → Bool} → IsGraph size joined → {set : ℕ → Bool} {count : ℕ} {part : ℕ → ℕ → Bool} →
-    ListsParts (complement size joined) set count part → ((x : ℕ) → set x ≡ true → x < size) → 2 ≤ count → FallsCoapart size joined set count part
-falls_coapart {size} {joined} G L among many =
-    let H = complement_graph G in
-    let F = falls_apart H L among many in
+    ((x : ℕ) → set x ≡ true → x < size) → FallsApart (complement size joined) set count part → FallsCoapart size joined set count part
+falls_coapart {size} {joined} G among F =
     record {
       apart = F;
       joined_across = λ i j x y li lj n px py. elim (cases_Bool (joined x y)) [
         | inl t ↦ t
         | inr f ↦ absurd (both_ways _ (F.across i j x y li lj n px py)
-            (co_from size joined x y (among x (F.among i x li px)) (among y (F.among j y lj py)) (λ e. n (once H L i j y li lj (rw e at px) py)) f))
+            (co_from size joined x y (among x (F.among i x li px)) (among y (F.among j y lj py)) (λ e. n (F.once i j y li lj (rw e at px) py)) f))
       ];
     }

@@ -3,9 +3,8 @@ use Rattle.std.proofs.Common.{◌≡◌, ℕ, ◌<◌, Bool, true, false, not, �
 use mathlib.Core.Bool.{Bool-discrete}
 use mathlib.Core.Logic.Dec
 use native.Mathlib.Decide.{ℕ_discrete}
-use Rattle.std.proofs.lemmas.Bool.{both_ways, not-true, not-false, not_from_true, not_from_false, eqb-true, eqb-false, eq-eqb, ne_eqb, cases_Bool, or_cases, or_parts, or_from, or_left}
+use Rattle.std.proofs.lemmas.Bool.{false_from_ne_true, both_ways, not-true, not-false, not_from_true, not_from_false, eqb-true, eqb-false, eq-eqb, ne_eqb, cases_Bool, or_cases, or_parts, or_from, or_left}
 use Rattle.graph.specs.Graphs.{IsGraph, Chain}
-use Rattle.graph.specs.Laws.{untrue}
 use Rattle.graph.proofs.Finite.{◌∈◌, seek}
 
 -- no four of the list form a chain
@@ -50,7 +49,7 @@ toward G c x = elim (cases_Bool (c.side x)) [ inl e ↦ (c, e) | inr e ↦ (flip
 -- a step does not cross a cut
 pub along : {joined : ℕ → ℕ → Bool} {members : List ℕ} (c : Cut joined members) (x y : ℕ) → x ∈ members → y ∈ members →
     c.side x ≡ true → joined x y ≡ true → c.side y ≡ true
-along c x y mx my sx j = not-false _ (untrue _ (λ e. both_ways _ (c.across x y mx my sx (not-true _ e)) j))
+along c x y mx my sx j = not-false _ (false_from_ne_true _ (λ e. both_ways _ (c.across x y mx my sx (not-true _ e)) j))
 
 -- a member other than v
 other : {joined : ℕ → ℕ → Bool} {members : List ℕ} → Cut joined members → (v : ℕ) → (y : ℕ) × (y ∈ members) × (y ≢ v)
@@ -94,7 +93,7 @@ pub opposite_back : {size : ℕ} {p q : ℕ → ℕ → Bool} → Opposite size 
 opposite_back {p = p} {q} O = record {
   graph = O.cograph;
   cograph = O.graph;
-  unjoined = λ x y j. untrue _ (λ k. both_ways _ (O.unjoined x y k) j);
+  unjoined = λ x y j. false_from_ne_true _ (λ k. both_ways _ (O.unjoined x y k) j);
   joined_else = λ x y lx ly n j. elim (cases_Bool (p x y)) [ inl t ↦ t | inr f ↦ absurd (both_ways _ j (O.joined_else x y lx ly n f)) ];
 }
 
@@ -157,7 +156,7 @@ module _ {size : ℕ} {p q : ℕ → ℕ → Bool} (O : Opposite size p q) where
         go (no n) =
             cut_with p v rest c.side c.right c.right_in
             (λ e. both_ways _ (c.across x c.right mx c.right_in sx c.right_side) (rw e (s x v ∙ vx)))
-            c.right_side (λ z mz _ sz. untrue _ (λ e. n (z, mz, (sz, e)))) (λ a z ma mz _ sa sz. c.across a z ma mz sa sz)
+            c.right_side (λ z mz _ sz. false_from_ne_true _ (λ e. n (z, mz, (sz, e)))) (λ a z ma mz _ sa sz. c.across a z ma mz sa sz)
 
     -- without a bridge the far members are a side; or there are none, and v is alone in the complement
     without_bridge : ¬ Bridge → (y : ℕ) → y ∈ rest → y ≢ v → Cut p (v ∷ rest) ⊎ Cut q (v ∷ rest)
@@ -166,10 +165,10 @@ module _ {size : ℕ} {p q : ℕ → ℕ → Bool} (O : Opposite size p q) where
         go : Dec ((y : ℕ) × (y ∈ rest) × Far y) → Cut p (v ∷ rest) ⊎ Cut q (v ∷ rest)
         go (yes t) =
             inl (cut_with p v rest (p v) t.0 t.1 t.2.0 t.2.1 (λ z _ _ s. s)
-            (λ x z mx mz n sx sz. untrue _ (λ e. none (x, mx, (sx, (z, mz, ((n, sz), e)))))))
+            (λ x z mx mz n sx sz. false_from_ne_true _ (λ e. none (x, mx, (sx, (z, mz, ((n, sz), e)))))))
         go (no near) =
             inr (cut_with q v rest (λ _. false) y my y≢v refl
-            (λ z mz n _. untrue _ (λ e. near (z, mz, (n, O.unjoined v z e)))) (λ x z _ _ _ e _. absurd (true≢false (sym e))))
+            (λ z mz n _. false_from_ne_true _ (λ e. near (z, mz, (n, O.unjoined v z e)))) (λ x z _ _ _ e _. absurd (true≢false (sym e))))
 
     -- a cut of all but v in a set without a chain gives a cut of the set
     extend : Chainless p (v ∷ rest) → Cut p rest → Cut p (v ∷ rest) ⊎ Cut q (v ∷ rest)

@@ -1,41 +1,26 @@
 -- The ways through one split. Assumes nothing.
-use Rattle.std.proofs.Common.{◌≡◌, ℕ, ◌<◌, Bool, true, false, not, ◌&&◌, eqb, ltb, List, is_some, Some, None, Option, sym, refl, ap, ◌∙◌, subst, ⊎_elim}
+use Rattle.std.proofs.Common.{arith, ◌≡◌, ℕ, ◌<◌, Bool, true, false, not, ◌&&◌, eqb, List, is_some, Some, None, Option, refl, subst}
 use mathlib.Core.Path.{fun_ext}
-use Rattle.std.proofs.lemmas.Bool.{and_parts, and_from, and_right, ltb-true, eq-eqb, ne_eqb, cases_eq, cases_Bool, not_from_true, not_from_false, both_ways}
+use Rattle.std.proofs.lemmas.Bool.Decides.{nat_tests}
 use Rattle.graph.specs.declared.answers.Split.{Split}
-use Rattle.graph.specs.declared.sets.MemberSet.{MemberSet}
 use Rattle.graph.specs.Answers.{Splits, Only}
 use Rattle.graph.specs.Finding.{FindsChain}
-use Rattle.graph.specs.Graphs.{IsGraph, complement, members_in}
-use Rattle.graph.specs.Members.{member}
+use Rattle.graph.specs.Graphs.{IsGraph, complement}
 use Rattle.graph.specs.Splitting.{AtMostOne, Connected}
-use Rattle.graph.proofs.Joining.{of_size}
 use Rattle.graph.proofs.Theorem.{stuck}
 
--- the set that is split has just the selected members
-module _ {size : ℕ} (selected : MemberSet) (below both : ℕ → Bool) (n : ℕ) (e : n ≡ size)
-    (is_below : (k : ℕ) → below k ≡ (ltb k 256 && ltb k n)) (is_both : (k : ℕ) → both k ≡ (member selected k && below k)) where
-  same : (k : ℕ) → both k ≡ members_in size (member selected) k
-  same k = of_size selected below both size k (is_below k ∙ ap (λ m. ltb k 256 && ltb k m) e) (is_both k)
-
-  pub members_only : (x : ℕ) → both x ≡ true → x < size
-  members_only x m = ltb-true x size (and_parts (member selected x) _ (sym (same x) ∙ m)).1
-
-  pub members_answer : (joined : ℕ → ℕ → Bool) (r : Split) → Splits size joined both r → Splits size joined (members_in size (member selected)) r
-  members_answer joined r says = subst (λ set. Splits size joined set r) (fun_ext same) says
+-- what is said of a set is said of one that has the same numbers
+pub same_answer : (size : ℕ) (joined : ℕ → ℕ → Bool) {f g : ℕ → Bool} → ((k : ℕ) → f k ≡ g k) → (r : Split) → Splits size joined f r → Splits size joined g r
+same_answer size joined same r says = subst (λ set. Splits size joined set r) (fun_ext same) says
 
 module _ {set : ℕ → Bool} (first : ℕ) (others : ℕ → Bool) (has : set first ≡ true) (is : (k : ℕ) → others k ≡ (set k && not (eqb k first))) where
   -- nothing besides the first
   pub one_member : ((k : ℕ) → others k ≡ false) → Only set first
-  one_member none = record {
-    has = has;
-    no_other = λ y m. ⊎_elim (λ e. e) (λ n. absurd (both_ways _ (none y) (is y ∙ and_from _ _ m (not_from_false _ (ne_eqb y first n))))) (cases_eq y first);
-  }
+  one_member none = record { has = has; no_other = λ y m. let gone = none y in grind (arith, nat_tests, is) }
 
   -- something besides the first
   pub two_members : (((k : ℕ) → others k ≡ false) → ⊥) → ¬ AtMostOne set
-  two_members some one = some (λ k. is k ∙ ⊎_elim
-      (λ m. and_right (set k) _ (not_from_true _ (eq-eqb k first (one k first m has)))) (λ f. ap (λ t. t && not (eqb k first)) f) (cases_Bool (set k)))
+  two_members some one = some (λ k. let same = one k first in grind (arith, nat_tests, is))
 
 -- the search does not fail where the set does not fall apart
 pub finds : {size : ℕ} {joined : ℕ → ℕ → Bool} {set : ℕ → Bool} → IsGraph size joined → ((x : ℕ) → set x ≡ true → x < size) → ¬ AtMostOne set →

@@ -4,7 +4,6 @@ pub mod Finite
 pub mod Cuts
 pub mod Paths
 pub mod Theorem
-pub mod Above
 pub mod Joining
 pub mod Walking
 pub mod Searching

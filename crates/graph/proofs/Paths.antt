@@ -48,9 +48,7 @@ chain_within {a = a} {b} {c} {d} part is ia mb mc md h =
     ((is b).1 rb, (is c).1 rc, (is d).1 (onward rc h.cd md))
 
 still : (s i e : Bool) → (s && not (i || e)) ≡ true → (s && not i) ≡ true
-still true true e h = h
-still true false e h = refl
-still false i e h = h
+still s i e h = grind arith
 
 -- each of a finite set has a connected part: add what is joined to something already in, until nothing is
 module _ (joined : ℕ → ℕ → Bool) (set : ℕ → Bool) (bound : ℕ) (below : (y : ℕ) → set y ≡ true → y < bound) (x : ℕ) where

@@ -1,6 +1,7 @@
 -- Searches that try one number after the other. Assumes nothing.
-use Rattle.std.proofs.Common.{◌≡◌, ℕ, Bool, true, false, not, ◌&&◌, eqb, sym, ◌∙◌, subst}
-use Rattle.std.proofs.lemmas.Bool.{and_parts, and_from, ne_eqb, not-true, not_from_false, both_ways}
+use Rattle.std.proofs.Common.{◌≡◌, ℕ, Bool, true, false, not, ◌&&◌, eqb, ◌∙◌, subst, inl, inr, arith}
+use Rattle.std.proofs.lemmas.Bool.{both_ways, cases_eq}
+use Rattle.std.proofs.lemmas.Bool.Decides.{nat_tests}
 use Rattle.graph.specs.Graphs.{IsGraph, ChainIn}
 
 -- what is left to try fits, and has whatever leads to an answer
@@ -12,8 +13,10 @@ pub record Untried (Fits Hope : ℕ → Type 0) (left : ℕ → Bool) : Type 0 w
 pub untried_more : {Fits Hope : ℕ → Type 0} {left : ℕ → Bool} (left' : ℕ → Bool) (x : ℕ) → ((k : ℕ) → left' k ≡ (left k && not (eqb k x))) →
     (Hope x → ⊥) → Untried Fits Hope left → Untried Fits Hope left'
 untried_more {Hope = Hope} left' x is vain U = record {
-  fits = λ k m. U.fits k (and_parts _ _ (sym (is k) ∙ m)).0;
-  hope = λ k h. is k ∙ and_from _ _ (U.hope k h) (not_from_false _ (ne_eqb k x (λ e. vain (subst Hope e h))));
+  fits = λ k m. U.fits k (grind (arith, is));
+  hope = λ k h.
+      let old = U.hope k h in
+      elim (cases_eq k x) [ inl same ↦ absurd (vain (subst Hope same h)) | inr other ↦ grind (arith, nat_tests, is) ];
 }
 
 -- nothing is left: there is no answer
@@ -29,15 +32,15 @@ pub record First (joined : ℕ → ℕ → Bool) (set : ℕ → Bool) (b c a : �
 -- what stands at one end of a joined pair: joined to the one, and not to the other
 pub end_fits : {joined : ℕ → ℕ → Bool} {set near far only end : ℕ → Bool} {b c : ℕ} → ((k : ℕ) → near k ≡ joined b k) → ((k : ℕ) → far k ≡ joined c k) →
     ((k : ℕ) → only k ≡ (near k && not (far k))) → ((k : ℕ) → end k ≡ (only k && set k)) → (k : ℕ) → end k ≡ true → First joined set b c k
-end_fits is_near is_far is_only is_end k m =
-    let p = and_parts _ _ (sym (is_end k) ∙ m) in
-    let q = and_parts _ _ (sym (is_only k) ∙ p.0) in
-    record { has = p.1; to_b = sym (is_near k) ∙ q.0; not_to_c = sym (is_far k) ∙ not-true _ q.1 }
+end_fits is_near is_far is_only is_end k m = record {
+  has = grind (arith, is_end);
+  to_b = grind (arith, is_near, is_only, is_end);
+  not_to_c = grind (arith, is_far, is_only, is_end);
+}
 
 pub end_has : {joined : ℕ → ℕ → Bool} {set near far only end : ℕ → Bool} {b c : ℕ} → ((k : ℕ) → near k ≡ joined b k) → ((k : ℕ) → far k ≡ joined c k) →
     ((k : ℕ) → only k ≡ (near k && not (far k))) → ((k : ℕ) → end k ≡ (only k && set k)) → (k : ℕ) → First joined set b c k → end k ≡ true
-end_has is_near is_far is_only is_end k f =
-    is_end k ∙ and_from _ _ (is_only k ∙ and_from _ _ (is_near k ∙ f.to_b) (not_from_false _ (is_far k ∙ f.not_to_c))) f.has
+end_has is_near is_far is_only is_end k f = grind (arith, is_near, is_far, is_only, is_end)
 
 module _ {size : ℕ} {joined : ℕ → ℕ → Bool} (G : IsGraph size joined) {set : ℕ → Bool} {a b c d : ℕ} where
   pub chain_made : set b ≡ true → set c ≡ true → joined b c ≡ true → First joined set b c a → First joined set c b d → joined a d ≡ false →

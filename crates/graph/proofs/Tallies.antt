@@ -1,9 +1,14 @@
 -- How many numbers pass a test. Assumes nothing.
-use Rattle.std.proofs.Common.{◌≡◌, ℕ, zero, suc, ◌+◌, ◌*◌, ◌/◌, ◌%◌, ◌^◌, ◌<◌, ◌≤◌, Bool, true, false, cond, not, ◌&&◌, eqb, List, get_or, sym, refl, ap, ◌∙◌, ⊎_elim, pow-suc, arith}
+use Rattle.std.proofs.Common.{◌≡◌, ℕ, zero, suc, ◌+◌, ◌*◌, ◌/◌, ◌%◌, ◌^◌, ◌<◌, ◌≤◌, Bool, true, false, cond, not, ◌&&◌, eqb, List, [], ◌∷◌, length, get_or, Some, sym, refl, ap, ◌∙◌, inl, inr, pow-suc, arith}
 use lib.Count.{ones, ones_step}
-use Rattle.std.proofs.lemmas.Bool.{cases_eq, lt-ltb, cond_both, and_parts, and_right, not_from_true, eq-eqb}
-use Rattle.graph.specs.Members.{bit, tally}
-use Rattle.graph.proofs.Bits.{has_bit, in_set, bit_suc}
+use Rattle.std.specs.List.{sum_by}
+use Rattle.std.proofs.lemmas.Bool.Decides.{nat_tests}
+use Rattle.std.proofs.lemmas.Bool.{cases_eq, lt-ltb}
+use Rattle.graph.specs.declared.sets.MemberSet.{MemberSet}
+use Rattle.graph.specs.Members.{member, tally, TakesLowest}
+use Rattle.std.specs.Int.{bit_at}
+use Rattle.std.proofs.lemmas.Nat.Bits.{bit_at-suc, bit_at-lt}
+use Rattle.graph.proofs.Bits.{has_bit, in_set, member_small}
 
 -- one where the test is true
 abbrev one_if : Bool → ℕ
@@ -22,35 +27,22 @@ tally_same f g (suc n) h =
 pub tally_le : (f : ℕ → Bool) (n : ℕ) → tally f n ≤ n
 unfolding tally
 tally_le f zero = omega arith
-tally_le f (suc n) =
-    let r = tally_le f n in
-    cond_both (f n) 1 0 (λ t. t + tally f n ≤ suc n) (λ _. omega arith) (λ _. omega arith)
+tally_le f (suc n) = let r = tally_le f n in grind (arith, nat_tests)
 
 -- what passes less passes no more
 pub tally_mono : (f g : ℕ → Bool) (n : ℕ) → ((j : ℕ) → f j ≡ true → g j ≡ true) → tally f n ≤ tally g n
 unfolding tally
 tally_mono f g zero h = omega arith
-tally_mono f g (suc n) h =
-    let r = tally_mono f g n h in
-    cond_both (f n) 1 0 (λ t. t + tally f n ≤ cond (g n) 1 0 + tally g n)
-    (λ e. let s = ap one_if (h n e) in omega arith) (λ _. omega arith)
+tally_mono f g (suc n) h = let r = tally_mono f g n h in let at = h n in grind (arith, nat_tests)
 
 -- and passes less where one number is lost
 pub tally_less : (f g : ℕ → Bool) (x n : ℕ) → ((j : ℕ) → f j ≡ true → g j ≡ true) → x < n → f x ≡ false → g x ≡ true → tally f n < tally g n
 unfolding tally
-tally_less f g x zero h l no_x yes_x = absurd (let z : ⊥ = omega arith in z)
-tally_less f g x (suc n) h l no_x yes_x =
-    ⊎_elim
-    (λ e.
-    let a = ap one_if (ap f e ∙ no_x) in
-    let b = ap one_if (ap g e ∙ yes_x) in
-    let r = tally_mono f g n h in
-    omega arith)
-    (λ ne.
-    let r = tally_less f g x n h (omega arith) no_x yes_x in
-    cond_both (f n) 1 0 (λ t. t + tally f n < cond (g n) 1 0 + tally g n)
-    (λ e. let s = ap one_if (h n e) in omega arith) (λ _. omega arith))
-    (cases_eq n x)
+tally_less f g x zero h l no_x yes_x = absurd (omega arith)
+tally_less f g x (suc n) h l no_x yes_x = elim (cases_eq x n) [
+  | inl same ↦ (let r = tally_mono f g n h in grind (arith, nat_tests))
+  | inr other ↦ (let r = tally_less f g x n h (omega arith) no_x yes_x in let at = h n in grind (arith, nat_tests))
+]
 
 -- the first of the numbers apart
 tally_first : (f : ℕ → Bool) (n : ℕ) → tally f (suc n) ≡ cond (f 0) 1 0 + tally (λ j. f (suc j)) n
@@ -79,9 +71,9 @@ tally_ones zero word h = let e : word ≡ 0 = omega arith in tally_nil (has_bit 
 tally_ones (suc k) word h =
     let r = tally_ones k (word / 2) (omega (arith, pow-suc 2 k)) in
     let first = tally_first (has_bit word) k in
-    let rest = tally_same (λ j. has_bit word (suc j)) (has_bit (word / 2)) k (λ j _. ap (λ n. eqb n 1) (bit_suc word j)) in
+    let rest = tally_same (λ j. has_bit word (suc j)) (has_bit (word / 2)) k (λ j _. ap (λ n. eqb n 1) (bit_at-suc word j)) in
     let step = ones_step word in
-    let low = low_digit (bit word 0) (omega arith) in
+    let low = low_digit (bit_at word 0) (bit_at-lt word 0) in
     omega arith
   where
     low_digit : (d : ℕ) → d < 2 → cond (eqb d 1) 1 0 ≡ d
@@ -97,26 +89,32 @@ in_word words i j k e row l =
     rw (lt-ltb k 256 (omega arith)) (ap (λ r. has_bit (get_or words r 0) (k % 64)) q ∙ ap (has_bit (get_or words i 0)) m)
 
 -- four words have as many numbers as set bits
-pub tally_words : (words : List ℕ) → ((i : ℕ) → i < 4 → get_or words i 0 < 2 ^ 64) →
-    tally (in_set words) 256 ≡ ones (get_or words 0 0) + ones (get_or words 1 0) + ones (get_or words 2 0) + ones (get_or words 3 0)
-tally_words words small =
+pub tally_words : (words : List ℕ) → length words ≡ 4 → ((i : ℕ) → i < 4 → get_or words i 0 < 2 ^ 64) → sum_by ones words ≡ tally (in_set words) 256
+tally_words [] long small = omega arith
+tally_words (a ∷ []) long small = omega arith
+tally_words (a ∷ b ∷ []) long small = omega arith
+tally_words (a ∷ b ∷ c ∷ []) long small = omega arith
+tally_words (a ∷ b ∷ c ∷ d ∷ []) long small =
+    let words : List ℕ = a ∷ b ∷ c ∷ d ∷ [] in
     let f : ℕ → Bool = in_set words in
-    let a = word (λ j. j) 0 (omega arith) (λ j. omega arith) in
-    let b = word (λ j. j + 64) 1 (omega arith) (λ j. omega arith) in
-    let c = word (λ j. j + 64 + 64) 2 (omega arith) (λ j. omega arith) in
-    let d = word (λ j. j + 64 + 64 + 64) 3 (omega arith) (λ j. omega arith) in
+    let s = word (λ j. j) 0 (omega arith) (λ j. omega arith) in
+    let t = word (λ j. j + 64) 1 (omega arith) (λ j. omega arith) in
+    let u = word (λ j. j + 64 + 64) 2 (omega arith) (λ j. omega arith) in
+    let v = word (λ j. j + 64 + 64 + 64) 3 (omega arith) (λ j. omega arith) in
     let p = tally_split f 64 192 in
     let q = tally_split (λ j. f (j + 64)) 64 128 in
     let r = tally_split (λ j. f (j + 64 + 64)) 64 64 in
     omega arith
   where
-    word : (place : ℕ → ℕ) (i : ℕ) → i < 4 → ((j : ℕ) → place j ≡ j + 64 * i) → tally (λ j. in_set words (place j)) 64 ≡ ones (get_or words i 0)
+    word : (place : ℕ → ℕ) (i : ℕ) → i < 4 → ((j : ℕ) → place j ≡ j + 64 * i) → tally (λ j. in_set (a ∷ b ∷ c ∷ d ∷ []) (place j)) 64 ≡ ones (get_or (a ∷ b ∷ c ∷ d ∷ []) i 0)
     word place i row e =
-        tally_same (λ j. in_set words (place j)) (has_bit (get_or words i 0)) 64 (λ j l. in_word words i j (place j) (e j) row l)
-        ∙ tally_ones 64 (get_or words i 0) (small i row)
+        tally_same (λ j. in_set (a ∷ b ∷ c ∷ d ∷ []) (place j)) (has_bit (get_or (a ∷ b ∷ c ∷ d ∷ []) i 0)) 64 (λ j l. in_word (a ∷ b ∷ c ∷ d ∷ []) i j (place j) (e j) row l)
+        ∙ tally_ones 64 (get_or (a ∷ b ∷ c ∷ d ∷ []) i 0) (small i row)
+tally_words (a ∷ b ∷ c ∷ d ∷ e ∷ more) long small = absurd (omega arith)
 
 -- a member set that loses one of its numbers is smaller
 pub tally_removed : (f g : ℕ → Bool) (x : ℕ) → x < 256 → f x ≡ true → ((k : ℕ) → g k ≡ (f k && not (eqb k x))) → tally g 256 < tally f 256
-tally_removed f g x l m is =
-    tally_less g f x 256 (λ k t. (and_parts _ _ (sym (is k) ∙ t)).0) l
-    (is x ∙ and_right (f x) (not (eqb x x)) (not_from_true _ (eq-eqb x x refl))) m
+tally_removed f g x l m is = tally_less g f x 256 (λ k t. grind (arith, is)) l (grind (arith, nat_tests, is)) m
+
+pub taken_less : (s t : MemberSet) (x : ℕ) → TakesLowest (member s) (Some x) (member t) → tally (member t) 256 < tally (member s) 256
+taken_less s t x h = tally_removed (member s) (member t) x (member_small s x h.0.0) h.0.0 h.1

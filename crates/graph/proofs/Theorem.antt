@@ -1,9 +1,9 @@
 -- A set of members splits down to single members exactly when it has no chain. Assumes nothing.
 use Rattle.std.proofs.Common.{◌≡◌, ℕ, zero, suc, ◌<◌, ◌≤◌, Bool, true, false, ◌⊎◌, refl, inl, inr, arith}
-use Rattle.std.proofs.lemmas.Bool.{both_ways}
+use Rattle.std.proofs.lemmas.Bool.{false_from_ne_true, both_ways}
 use Rattle.graph.specs.Members.{tally}
 use Rattle.graph.specs.Graphs.{IsGraph, complement, NoChain}
-use Rattle.graph.specs.Laws.{untrue, co_parts, co_from, complement_graph}
+use Rattle.graph.specs.Laws.{co_parts, co_from, complement_graph}
 use Rattle.graph.specs.Splitting.{Reaches, here, Connected, PartOf, AtMostOne, SplitsDown, single, apart, coapart, SplitsIffNoChain}
 use Rattle.graph.proofs.Finite.{◌∈◌, listed, in_listed, listed_in}
 use Rattle.graph.proofs.Cuts.{Cut, toward, along, Opposite, opposite_back, chain_turned, one_or_cut}
@@ -55,7 +55,7 @@ smaller {size} G set among c₀ x part is =
     let c = w.0 in
     let m = listed_in set c.right size c.right_in in
     tally_less part set c.right size (λ y i. reached_in ((is y).0 i)) (among c.right m)
-    (untrue _ (λ i. both_ways _ c.right_side (no_crossing set size among c w.1 ((is c.right).0 i)))) m
+    (false_from_ne_true _ (λ i. both_ways _ c.right_side (no_crossing set size among c w.1 ((is c.right).0 i)))) m
 
 module _ {size : ℕ} {joined : ℕ → ℕ → Bool} (G : IsGraph size joined) where
   -- a set of members without a chain has at most one, or a cut in the graph or in the complement

@@ -1,5 +1,5 @@
 -- What is answered where a chain is looked for: four numbers, in the chain's order, or none.
-use Rattle.std.specs.Prelude.{◌≡◌, ℕ, Bool, true, List, Some, None, Option, slice_index}
+use Rattle.std.specs.Prelude.{ℕ, Bool, List, Some, None, Option, slice_index}
 use Rattle.graph.specs.Graphs.{ChainIn, NoChain}
 
 -- the four form a chain, and are of the set
@@ -10,13 +10,3 @@ FormsChain joined set four = ChainIn joined set (slice_index four 0) (slice_inde
 abbrev pub FindsChain : (ℕ → ℕ → Bool) → (ℕ → Bool) → Option (List ℕ) → Type 0
 FindsChain joined set (Some four) = FormsChain joined set four
 FindsChain joined set None = NoChain joined set
-
--- of the inner loop: a chain of the set, or none where none has b as its second and one of those given as its third
-abbrev pub FindsAbout : (ℕ → ℕ → Bool) → (ℕ → Bool) → ℕ → (ℕ → Bool) → Option (List ℕ) → Type 0
-FindsAbout joined set b thirds (Some four) = FormsChain joined set four
-FindsAbout joined set b thirds None = (a c d : ℕ) → thirds c ≡ true → ChainIn joined set a b c d → ⊥
-
--- of the innermost loop: a chain of the set, or none where none has b and c in the middle
-abbrev pub FindsAround : (ℕ → ℕ → Bool) → (ℕ → Bool) → ℕ → ℕ → Option (List ℕ) → Type 0
-FindsAround joined set b c (Some four) = FormsChain joined set four
-FindsAround joined set b c None = (a d : ℕ) → ChainIn joined set a b c d → ⊥

@@ -1,7 +1,8 @@
 -- The complement and the selection of a graph are graphs: the laws that their implementations owe, proved. Nothing here needs to be believed.
 use Rattle.std.specs.Prelude.{◌≡◌, ℕ, ◌<◌, Bool, true, false, ◌≢◌, refl}
 use Rattle.std.proofs.Common.{sym, ◌∙◌}
-use Rattle.std.proofs.lemmas.Bool.{and_parts, and_from, ltb-true, lt-ltb, eqb-false, ne_eqb, not-true, not_from_false, both_ways}
+use Rattle.std.specs.Cmp.Derive.{one_truth}
+use Rattle.std.proofs.lemmas.Bool.{false_from_ne_true, and_parts, and_from, ltb-true, lt-ltb, eqb-false, ne_eqb, not-true, not_from_false, both_ways}
 use Rattle.graph.specs.Graphs.{IsGraph, complement, selection}
 
 -- what the complement joins: two different members that the graph leaves unjoined
@@ -20,22 +21,11 @@ unfolding complement
 co_from size joined a b la lb n j =
     and_from _ _ (lt-ltb a size la) (and_from _ _ (lt-ltb b size lb) (and_from _ _ (not_from_false _ (ne_eqb a b n)) (not_from_false _ j)))
 
--- a test that is not true is false
-pub untrue : (b : Bool) → ¬ (b ≡ true) → b ≡ false
-untrue true n = absurd (n refl)
-untrue false n = refl
-
--- two tests that are true alike are equal
-pub same_truth : (x y : Bool) → (x ≡ true → y ≡ true) → (y ≡ true → x ≡ true) → x ≡ y
-same_truth true y f g = sym (f refl)
-same_truth false true f g = g refl
-same_truth false false f g = refl
-
 pub complement_graph : {size : ℕ} {joined : ℕ → ℕ → Bool} → IsGraph size joined → IsGraph size (complement size joined)
 complement_graph {size} {joined} G = record {
   few = G.few;
-  symmetric = λ a b. same_truth _ _ (turned a b) (turned b a);
-  irreflexive = λ a. untrue _ (λ j. (co_parts size joined a a j).2 refl);
+  symmetric = λ a b. one_truth _ _ (turned a b) (turned b a);
+  irreflexive = λ a. false_from_ne_true _ (λ j. (co_parts size joined a a j).2 refl);
   within = λ a b j. (co_parts size joined a b j).0;
 }
   where
@@ -48,8 +38,8 @@ pub selection_graph : {size : ℕ} {joined : ℕ → ℕ → Bool} (set : ℕ �
 unfolding selection
 selection_graph {size} {joined} set G = record {
   few = G.few;
-  symmetric = λ a b. same_truth _ _ (turned a b) (turned b a);
-  irreflexive = λ a. untrue _ (λ j. both_ways _ (G.irreflexive a) (parts a a j).2);
+  symmetric = λ a b. one_truth _ _ (turned a b) (turned b a);
+  irreflexive = λ a. false_from_ne_true _ (λ j. both_ways _ (G.irreflexive a) (parts a a j).2);
   within = λ a b j. G.within a b (parts a b j).2;
 }
   where

@@ -1,11 +1,11 @@
--- The relation that a table of neighbours stores, and what joining a set does to it.
-use Rattle.std.specs.Prelude.{ℕ, Bool, not, ◌&&◌, ◌||◌, ◌==◌, slice_index_or}
+-- The relation that rows of neighbours store, and what joining a set does to it.
+use Rattle.std.specs.Prelude.{ℕ, Bool, List, not, ◌&&◌, ◌||◌, ◌==◌, slice_index_or}
 use Rattle.graph.specs.Members.{member, nothing}
-use Rattle.graph.specs.declared.tables.Neighbours.{Neighbours}
+use Rattle.graph.specs.declared.sets.MemberSet.{MemberSet}
 
 -- whether b is among the neighbours stored for a
-unfoldable pub stored : Neighbours → ℕ → ℕ → Bool
-stored table a b = member (slice_index_or table.of a nothing) b
+unfoldable pub stored : List MemberSet → ℕ → ℕ → Bool
+stored rows a b = member (slice_index_or rows a nothing) b
 
 -- a relation, and besides each number of the first set with each other number of the second
 unfoldable pub with_pairs : (ℕ → Bool) → (ℕ → Bool) → (ℕ → ℕ → Bool) → ℕ → ℕ → Bool

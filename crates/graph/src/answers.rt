@@ -1,27 +1,13 @@
 //! What is answered: a list of parts, and how a set splits.
-ghost use Rattle.std.specs.Prelude.{◌≡◌, ◌≤◌, take};
-
 use crate::sets::MemberSet;
+use lists::FixedList;
 
-/// Up to 256 sets, one after the other.
-#[derive(Clone, Copy)]
-pub struct Parts {
-    pub sets: [MemberSet; 256],
-    pub count: usize,
-    ghost few: { count ≤ 256 },
-}
+/// Up to 256 sets.
+pub type Parts = FixedList<MemberSet, 256>;
 
-impl Parts {
-    /// The sets, in order.
-    pub fn as_slice(&self) -> &[MemberSet]
-        ensures { result.now ≡ take self.now.count self.now.sets }
-    {
-        &self.sets[0..self.count]
-    }
-}
-
+// `Split` stands apart from the function `split`: no two names of a module may differ in the case of their letters alone.
 /// How a set of members splits.
-#[derive(Clone, Copy)]
+#[derive(Clone, Copy, PartialEq, Eq, Debug)]
 pub enum Split {
     /// There is no member.
     Empty,

@@ -14,9 +14,6 @@ pub trait Graph {
     // whether two numbers are joined
     ghost joins: { Self → ℕ → ℕ → Bool };
 
-    // joined goes both ways, joins nothing to itself, and joins only members
-    ghost laws: { (g : Self) → IsGraph (members g) (joins g) };
-
     /// How many members there are.
     fn size(&self) -> usize
         ensures { result ≡ members self.now };
@@ -25,19 +22,25 @@ pub trait Graph {
     fn joined(&self, a: usize, b: usize) -> bool
         ensures { result ≡ joins self.now a b }
     {
-        if a >= 256 || b >= 256 {
+        let Ok(near) = u8::try_from(a) else {
             return false;
-        }
-        self.neighbours(a as u8).contains(b as u8)
+        };
+        let Ok(far) = u8::try_from(b) else {
+            return false;
+        };
+        self.neighbours(near).contains(far)
     }
 
     /// The members that are joined to `a`.
     fn neighbours(&self, a: u8) -> MemberSet
         ensures { (k : ℕ) → member result k ≡ joins self.now a k };
+
+    // joined goes both ways, joins nothing to itself, and joins only members
+    ghost laws: { (g : Self) → IsGraph (members g) (joins g) };
 }
 
 /// The complement of a graph: it joins two different members that the graph leaves unjoined.
-#[derive(Drop)]
+#[derive_where(Clone, Copy)]
 pub struct Complement<'a, G> {
     pub of: &'a G,
 }
@@ -65,7 +68,7 @@ impl<G: Graph> Graph for Complement<'_, G> {
 }
 
 /// A selection of a graph: it keeps all members, but joins only selected ones.
-#[derive(Drop)]
+#[derive_where(Clone, Copy)]
 pub struct Selection<'a, G> {
     pub graph: &'a G,
     pub selected: MemberSet,

@@ -7,7 +7,6 @@ pub mod graphs;
 pub mod sets;
 pub mod splits;
 pub mod stored;
-mod tables;
 #[cfg(test)]
 mod tests;
 pub mod walks;

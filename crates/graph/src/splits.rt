@@ -2,14 +2,16 @@
 ghost use Rattle.std.specs.Prelude.{◌≡◌, ℕ, ◌<◌, true};
 ghost use Rattle.graph.specs.Graphs.{members_in};
 ghost use Rattle.graph.specs.Members.{member};
-ghost use Rattle.graph.specs.Answers.{Splits};
+ghost use Rattle.graph.specs.Answers.{FallsApartOrNot, Splits};
 ghost use Rattle.graph.specs.Splitting.{SplitsIffNoChain};
 
-use crate::answers::Split;
+use crate::answers::{Parts, Split};
 use crate::chains::chain;
 use crate::graphs::{Complement, Graph};
 use crate::sets::MemberSet;
 use crate::walks::parts;
+
+// A graph and a selected set are two parameters, since one graph is asked about many sets and no fact ties the two.
 
 /// Splits the selected members; selected numbers that are no members are left out.
 /// A set of members splits down to single ones, part by part, exactly when no four of it form a chain.
@@ -25,21 +27,30 @@ fn split_members<G: Graph>(graph: &G, set: MemberSet) -> Split
     requires { (x : ℕ) → member set x ≡ true → x < G.Graph.members graph.now }
     ensures { Splits (G.Graph.members graph.now) (G.Graph.joins graph.now) (member set) result }
 {
-    let Some(first) = set.lowest() else {
+    let mut others = set;
+    let Some(first) = others.pop_first() else {
         return Split::Empty;
     };
-    let mut others = set;
-    others.remove(first);
     if others.is_empty() {
         return Split::Single(first);
     }
-    let in_graph = parts(graph, set);
-    if in_graph.count >= 2 {
-        return Split::InGraph(in_graph);
+    if let Some(parts) = two_or_more(graph, set) {
+        return Split::InGraph(parts);
     }
-    let in_complement = parts(&Complement { of: graph }, set);
-    if in_complement.count >= 2 {
-        return Split::InComplement(in_complement);
+    if let Some(parts) = two_or_more(&Complement { of: graph }, set) {
+        return Split::InComplement(parts);
     }
     Split::Stuck(chain(graph, set).unwrap())
+}
+
+// The connected parts of a set of members, or none where it is connected.
+fn two_or_more<G: Graph>(graph: &G, set: MemberSet) -> Option<Parts>
+    requires { (x : ℕ) → member set x ≡ true → x < G.Graph.members graph.now }
+    ensures { FallsApartOrNot (G.Graph.joins graph.now) (member set) result }
+{
+    let parts = parts(graph, set);
+    if parts.as_slice().len() < 2 {
+        return None;
+    }
+    Some(parts)
 }

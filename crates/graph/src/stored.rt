@@ -1,25 +1,26 @@
 //! A graph that stores the neighbours of each member.
-ghost use Rattle.std.specs.Prelude.{◌≡◌, ℕ, ◌<◌, ◌≤◌, min, true, false, ◌||◌, ◌==◌};
-ghost use Rattle.graph.specs.Graphs.{members_in};
-ghost use Rattle.graph.specs.Members.{member};
-ghost use Rattle.graph.specs.Stored.{stored, with_all};
+ghost use Rattle.std.specs.Prelude.{◌≡◌, ℕ, length};
+ghost use Rattle.graph.specs.Graphs.{IsGraph};
+ghost use Rattle.graph.specs.Stored.{stored};
 
 use crate::graphs::Graph;
 use crate::sets::MemberSet;
-use crate::tables::Neighbours;
 
 /// A graph by the stored neighbours of each member.
-#[derive(Clone, Copy)]
+#[derive(Clone, Copy, PartialEq, Eq, Debug)]
 pub struct StoredGraph {
     count: usize,
-    rows: Neighbours,
-    ghost few: { count ≤ 256 },
-    ghost symmetric: { (a b : ℕ) → stored rows a b ≡ stored rows b a },
-    ghost irreflexive: { (a : ℕ) → stored rows a a ≡ false },
-    ghost within: { (a b : ℕ) → stored rows a b ≡ true → a < count },
+    // No list: each of 256 numbers has its row, that of no member an empty one.
+    rows: [MemberSet; 256],
+    ghost lawful: { IsGraph count (stored rows) },
 }
 
 impl StoredGraph {
+    ghost use Rattle.std.specs.Prelude.{min, false, ◌||◌, ◌==◌};
+    ghost use Rattle.graph.specs.Graphs.{members_in};
+    ghost use Rattle.graph.specs.Members.{member};
+    ghost use Rattle.graph.specs.Stored.{with_all};
+
     /// A graph of so many members, or of 256 where more are asked for, no two of which are joined.
     pub fn new(size: usize) -> StoredGraph
         ensures count { result.count ≡ min size 256 }
@@ -27,7 +28,7 @@ impl StoredGraph {
     {
         StoredGraph {
             count: size.min(256),
-            rows: Neighbours::none(),
+            rows: [MemberSet::empty(); 256],
         }
     }
 
@@ -36,8 +37,14 @@ impl StoredGraph {
         ensures count { self.new.count ≡ self.old.count }
         ensures pairs { (a b : ℕ) → stored self.new.rows a b ≡ with_all (members_in self.old.count (member set)) (stored self.old.rows) a b }
     {
-        let all = MemberSet::below(self.size());
-        self.rows.join_all(set.intersection(all));
+        let all = set.intersection(MemberSet::below(self.size()));
+        // The rows are lent to the loop, since between its turns the relation is not symmetric.
+        let rows = &mut self.rows;
+        for a in all {
+            let mut others = all;
+            others.remove(a);
+            rows[a as usize] = rows[a as usize].union(others);
+        }
     }
 
     /// Joins two different members; where one is no member, or both are the same, nothing changes.
@@ -45,10 +52,7 @@ impl StoredGraph {
         ensures count { self.new.count ≡ self.old.count }
         ensures pairs { (x y : ℕ) → stored self.new.rows x y ≡ with_all (members_in self.old.count (λ k. (k == a) || k == b)) (stored self.old.rows) x y }
     {
-        let mut pair = MemberSet::empty();
-        pair.insert(a);
-        pair.insert(b);
-        self.join_all(pair);
+        self.join_all(MemberSet::from([a, b]));
     }
 }
 
@@ -57,13 +61,13 @@ impl Graph for StoredGraph {
 
     ghost joins = { λ s. stored s.rows };
 
-    ghost laws = { λ s. record { few = s.few; symmetric = s.symmetric; irreflexive = s.irreflexive; within = s.within } };
-
     fn size(&self) -> usize {
         self.count
     }
 
     fn neighbours(&self, a: u8) -> MemberSet {
-        self.rows.row(a)
+        self.rows[a as usize]
     }
+
+    ghost laws = { λ s. s.lawful };
 }

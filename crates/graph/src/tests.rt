@@ -6,7 +6,7 @@ use crate::sets::MemberSet;
 use crate::splits::split;
 use crate::stored::StoredGraph;
 
-// What a split says: nothing, one member, so many parts in the graph or in the complement, or a chain.
+// What a test compares of a split: how many parts there are, and not which.
 #[derive(Clone, Copy, PartialEq, Eq, Debug)]
 enum Kind {
     Empty,
@@ -37,39 +37,40 @@ fn path(size: usize, members: &[u8]) -> StoredGraph {
     graph
 }
 
-// The numbers of a list.
-fn set_of(numbers: &[u8]) -> MemberSet {
-    let mut set = MemberSet::empty();
-    for k in numbers {
-        set.insert(*k);
-    }
-    set
-}
-
 #[test]
 fn splits(rt: HostRuntime) {
     let chain = path(4, &[0, 1, 2, 3]);
     let ring = path(4, &[0, 1, 2, 3, 0]);
     let parts = path(6, &[0, 4, 2]);
     let cases = [
-        (chain, set_of(&[]), Kind::Empty, Kind::Empty),
-        (chain, set_of(&[2, 255]), Kind::Single(2), Kind::Single(2)),
+        (chain, MemberSet::from([]), Kind::Empty, Kind::Empty),
         (
             chain,
-            set_of(&[0, 1, 2]),
+            MemberSet::from([2, 255]),
+            Kind::Single(2),
+            Kind::Single(2),
+        ),
+        (
+            chain,
+            MemberSet::from([0, 1, 2]),
             Kind::InComplement(2),
             Kind::InGraph(2),
         ),
-        (chain, set_of(&[0, 1, 2, 3]), Kind::Stuck, Kind::Stuck),
+        (
+            chain,
+            MemberSet::from([0, 1, 2, 3]),
+            Kind::Stuck,
+            Kind::Stuck,
+        ),
         (
             ring,
-            set_of(&[0, 1, 2, 3]),
+            MemberSet::from([0, 1, 2, 3]),
             Kind::InComplement(2),
             Kind::InGraph(2),
         ),
         (
             parts,
-            set_of(&[0, 1, 2, 4]),
+            MemberSet::from([0, 1, 2, 4]),
             Kind::InGraph(2),
             Kind::InComplement(2),
         ),
@@ -88,7 +89,7 @@ fn complete(rt: HostRuntime) {
         kind_of(&graph, MemberSet::below(256)),
         Kind::InComplement(256)
     );
-    assert_eq!(rt; kind_of(&graph, set_of(&[255])), Kind::Single(255));
+    assert_eq!(rt; kind_of(&graph, MemberSet::from([255])), Kind::Single(255));
 }
 
 #[test]
@@ -99,16 +100,27 @@ fn chains(rt: HostRuntime) {
     assert_eq!(rt; chain(&opened, MemberSet::below(5)), Some([0, 1, 2, 3]));
     let some = Selection {
         graph: &opened,
-        selected: set_of(&[0, 1, 2]),
+        selected: MemberSet::from([0, 1, 2]),
     };
     assert!(rt; some.joined(0, 1) && !some.joined(2, 3) && !some.joined(0, 300));
 }
 
 #[test]
 fn members(rt: HostRuntime) {
-    let set = set_of(&[64, 255]);
+    let set = MemberSet::from([64, 255]);
     assert!(rt; set.count() == 2 && set.contains(255) && !set.contains(63));
     assert_eq!(rt; set.lowest(), Some(64));
     assert_eq!(rt; MemberSet::below(256).difference(set).lowest(), Some(0));
     assert!(rt; MemberSet::empty().is_empty());
+}
+
+#[test]
+fn in_order(rt: HostRuntime) {
+    let mut set = MemberSet::from([255, 64, 3, 64]);
+    assert_eq!(rt; set.pop_first(), Some(3));
+    let mut numbers = set.into_iter();
+    assert_eq!(rt; numbers.next(), Some(64));
+    assert_eq!(rt; numbers.next(), Some(255));
+    assert_eq!(rt; numbers.next(), None);
+    assert_eq!(rt; set, MemberSet::from([64, 255]));
 }

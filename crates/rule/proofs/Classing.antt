@@ -1,46 +1,26 @@
 -- What a class says of its byte, and how many bytes of a class a text begins with.
-use Rattle.std.proofs.Common.{◌≡◌, ℕ, ◌+◌, ◌-◌, ◌<◌, ◌≤◌, true, false, cond, eqb, List, [], ◌∷◌, length, get_or, take, drop, sym, refl, ap, ◌∙◌, subst, one-add, arith}
+use Rattle.std.proofs.Common.{◌≡◌, ℕ, ◌+◌, ◌<◌, ◌≤◌, true, false, eqb, List, [], ◌∷◌, length, get_or, take, drop, sym, ap, ◌∙◌, subst, one-add, arith}
 use Rattle.std.specs.Str.Parse.{AllDigits}
 use Rattle.std.proofs.lemmas.Str.{digit_value_digit}
-use Rattle.std.specs.List.{between}
-use Rattle.std.proofs.lemmas.Slice.{first_rest}
-use Rattle.std.proofs.lemmas.Bool.{eqb-true, eq-eqb, ne_eqb, leb-true, le-leb, lt-leb, and_parts, cond_both, cond-true, true≢false}
-use Rattle.std.proofs.lemmas.List.{length-drop, get_or-drop, take_rest, drop_more}
+use Rattle.std.proofs.lemmas.Bool.Decides.{nat_tests}
+use Rattle.std.proofs.lemmas.Bool.{eqb-true, leb-true, and_parts, cond_both, cond-true, true≢false}
+use Rattle.std.proofs.lemmas.List.{length-drop, get_or-drop, drop_more}
+use Rattle.std.proofs.lemmas.List.Sums.{prefix_len_stops}
 use Rattle.rule.specs.declared.tokens.Class.{Class}
 use Rattle.rule.specs.declared.tokens.Class.TheVariants.{Blank, Name, Open, Close, Colon, Comma, Table, Variable, Digit, Other}
 use Rattle.rule.specs.Classes as classes
-use Rattle.rule.specs.Classes.{class, code, is, run_of}
-
--- the class with a number
-abbrev from_code : ℕ → Class
-from_code n =
-    cond (eqb n 0) Blank
-    (cond (eqb n 1) Name
-    (cond (eqb n 2) Open
-    (cond (eqb n 3) Close
-    (cond (eqb n 4) Colon
-    (cond (eqb n 5) Comma (cond (eqb n 6) Table (cond (eqb n 7) Variable (cond (eqb n 8) Digit Other))))))))
-
-from_code_code : (c : Class) → from_code (code c) ≡ c
-from_code_code Blank = refl
-from_code_code Name = refl
-from_code_code Open = refl
-from_code_code Close = refl
-from_code_code Colon = refl
-from_code_code Comma = refl
-from_code_code Table = refl
-from_code_code Variable = refl
-from_code_code Digit = refl
-from_code_code Other = refl
+use Rattle.rule.specs.Classes.{class, is, run_of}
+use denote.Enum.Bare.{same_true, true_same, false_same}
+use Rattle.rule.specs.contracts.tokens.Class.{the_type}
 
 pub is_same : (c d : Class) → is c d ≡ true → c ≡ d
-is_same c d e = sym (from_code_code c) ∙ (ap from_code (eqb-true (code c) (code d) e) ∙ from_code_code d)
+is_same c d = same_true the_type tt c d
 
 pub same_is : (c d : Class) → c ≡ d → is c d ≡ true
-same_is c d e = eq-eqb (code c) (code d) (ap code e)
+same_is c d = true_same the_type c d
 
 pub other_is : (c d : Class) → (c ≡ d → ⊥) → is c d ≡ false
-other_is c d h = ne_eqb (code c) (code d) (λ e. h (is_same c d (eq-eqb (code c) (code d) e)))
+other_is c d = false_same the_type tt c d
 
 -- what a class says of its byte
 abbrev pub Kind : Class → ℕ → Type 0
@@ -80,46 +60,23 @@ kind_of c b e = kind_at c b (is_same (class b) c e)
 -- the classes of letters and digits
 module _ (b : ℕ) where
   pub table_class : 65 ≤ b → b ≤ 72 → class b ≡ Table
-  table_class l h =
-      rw (ne_eqb b 32 (omega arith), ne_eqb b 81 (omega arith), ne_eqb b 40 (omega arith), ne_eqb b 41 (omega arith), ne_eqb b 58 (omega arith), ne_eqb b 44 (omega arith), le-leb 65 b l, le-leb b 72 h)
+  table_class l h = grind (arith, nat_tests)
 
   pub variable_class : 97 ≤ b → b ≤ 122 → class b ≡ Variable
-  variable_class l h =
-      rw (ne_eqb b 32 (omega arith), ne_eqb b 81 (omega arith), ne_eqb b 40 (omega arith), ne_eqb b 41 (omega arith), ne_eqb b 58 (omega arith), ne_eqb b 44 (omega arith), le-leb 65 b (omega arith), lt-leb b 72 (omega arith), le-leb 97 b l, le-leb b 122 h)
+  variable_class l h = grind (arith, nat_tests)
 
   pub digit_class : 48 ≤ b → b ≤ 57 → class b ≡ Digit
-  digit_class l h =
-      rw (ne_eqb b 32 (omega arith), ne_eqb b 81 (omega arith), ne_eqb b 40 (omega arith), ne_eqb b 41 (omega arith), ne_eqb b 58 (omega arith), ne_eqb b 44 (omega arith), lt-leb 65 b (omega arith), lt-leb 97 b (omega arith), le-leb 48 b l, le-leb b 57 h)
-
--- how many bytes of a class: one more behind a byte of it
-pub run_more : (c k : Class) (xs : List ℕ) (r : ℕ) → 0 < length xs → k ≡ class (get_or xs 0 0) → k ≡ c
-    → r ≡ run_of c (between 1 (length xs) xs) → 1 + r ≡ run_of c xs
-run_more c k xs r h e f g =
-    ap (λ n. 1 + n) g ∙ (sym (cond-true _ _ 0 (same_is (class (get_or xs 0 0)) c (sym e ∙ f))) ∙ sym (ap (run_of c) (first_rest xs 0 h)))
+  digit_class l h = grind (arith, nat_tests)
 
 -- behind them comes none of it
-run_stop : (c : Class) (xs : List ℕ) → run_of c xs < length xs → class (get_or xs (run_of c xs) 0) ≡ c → ⊥
-run_stop c [] = λ l e. omega arith
-run_stop c (b ∷ s) =
-    let P : ℕ → Type 0 = λ n. n < length (b ∷ s) → class (get_or (b ∷ s) n 0) ≡ c → ⊥ in
-    cond_both (is (class b) c) (1 + run_of c s) 0 P
-    (λ f l e. run_stop c s (omega arith) (ap (λ i. class (get_or (b ∷ s) i 0)) (sym (one-add (run_of c s))) ∙ e))
-    (λ f l e. true≢false (sym (same_is (class b) c e) ∙ f))
-
 pub run_stops : (c : Class) (text : List ℕ) (from r : ℕ) → r ≡ run_of c (drop from text) → from + r < length text
     → class (get_or text (from + r) 0) ≡ c → ⊥
 run_stops c text from r h l e =
+    let xs = drop from text in
     let n = length-drop from text in
-    run_stop c (drop from text) (omega arith)
-    (ap (λ i. class (get_or (drop from text) i 0)) (sym h) ∙ (ap class (get_or-drop from text r 0) ∙ e))
-
--- the first byte from a place on
-pub first_byte : (text : List ℕ) (at : ℕ) → at < length text → take 1 (take (length text - at) (drop at text)) ≡ get_or text at 0 ∷ []
-first_byte text at l = ap (take 1) (take_rest text at ∙ drop_more text at 0 l)
-
-pub run_le : (c : Class) (xs : List ℕ) → run_of c xs ≤ length xs
-run_le c [] = omega arith
-run_le c (b ∷ s) = cond_both (is (class b) c) (1 + run_of c s) 0 (λ n. n ≤ length (b ∷ s)) (λ _. omega (arith, run_le c s)) (λ _. omega arith)
+    let stops = prefix_len_stops (λ b. is (class b) c) xs 0 (omega arith) in
+    let same : class (get_or xs (run_of c xs) 0) ≡ c = ap (λ i. class (get_or xs i 0)) (sym h) ∙ (ap class (get_or-drop from text r 0) ∙ e) in
+    true≢false (sym (same_is _ c same) ∙ stops)
 
 -- digits are a numeral's
 pub run_digits : (xs : List ℕ) → AllDigits 10 (take (run_of Digit xs) xs)
@@ -137,8 +94,3 @@ pub run_some : (c : Class) (text : List ℕ) (at : ℕ) → at < length text →
 run_some c text at l e =
     let f = ap (run_of c) (drop_more text at 0 l) ∙ cond-true _ (1 + run_of c (drop (at + 1) text)) 0 (same_is (class (get_or text at 0)) c e) in
     omega arith
-
--- there is none where a byte of another class comes first
-pub run_none : (c k : Class) (xs : List ℕ) → 0 < length xs → k ≡ class (get_or xs 0 0) → (k ≡ c → ⊥) → 0 ≡ run_of c xs
-run_none c k [] h e f = omega arith
-run_none c k (b ∷ s) h e f = rw (other_is (class b) c (λ g. f (e ∙ g))) refl

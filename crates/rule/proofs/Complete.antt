@@ -9,11 +9,11 @@ use Rattle.std.proofs.lemmas.Int.Digits.{digits_value_is, number_after_append, n
 use Rattle.std.proofs.lemmas.Str.Parse.{digit_from_value}
 use Rattle.std.proofs.lemmas.Bool.{le-leb}
 use Rattle.rule.specs.declared.tokens.Class.TheVariants.{Blank, Digit}
-use Rattle.rule.specs.declared.atoms.Term.{Term}
-use Rattle.rule.specs.declared.atoms.Term.TheVariants as terms
+use Rattle.rule.specs.declared.rules.Term.{Term}
+use Rattle.rule.specs.declared.rules.Term.TheVariants as terms
 use Rattle.rule.specs.Classes.{class}
 use Rattle.rule.specs.Grammar.{Said, Symbol, Writes, Spells, Says, Numeral, OneOrMore, further, term_symbols, atom_symbols}
-use Rattle.rule.specs.Scanning.{State, grown, next, scan, onward}
+use Rattle.rule.specs.Scanning.{State, grown, next, scan}
 use Rattle.rule.proofs.Classing.{table_class, variable_class, digit_class}
 
 -- on these bytes the reader, standing at q, finds these atoms
@@ -27,35 +27,28 @@ Then q ss all = (raw : List ℕ) → Spells raw ss → Leads q raw all
 -- over spaces to a token
 over : {raw : List ℕ} {s : Symbol} {ss : List Symbol} → Spells raw (s ∷ ss) → (q : State) (all : List Said) → next q Blank 32 ≡ Some q
     → ((w rest : List ℕ) → Writes w s → Spells rest ss → Leads q (w ++ rest) all) → Leads q raw all
-over (Spells.space {raw} h) q all skip go n = ap (λ o. onward o n raw) skip ∙ over h q all skip go (n + 1)
+over (Spells.space h) q all skip go n = rw skip (over h q all skip go (n + 1))
 over (Spells.token {raw} {rest} w h) q all skip go n = go raw rest w h n
 
 -- what bytes a mark has
-abbrev Marked : Symbol → List ℕ → Type 0
-Marked Symbol.name w = w ≡ 81 ∷ []
-Marked Symbol.left w = w ≡ 40 ∷ []
-Marked Symbol.right w = w ≡ 41 ∷ []
-Marked Symbol.comma w = w ≡ 44 ∷ []
-Marked Symbol.turnstile w = w ≡ 58 ∷ 45 ∷ []
-Marked (Symbol.table k) w = (b : ℕ) × (w ≡ b ∷ []) × (b ≡ 65 + k) × (k < 8)
-Marked (Symbol.term t) w = Unit {0}
+is_name : (w : List ℕ) → Writes w Symbol.name → w ≡ 81 ∷ []
+is_name w Writes.writes_name = refl
 
-marked : {w : List ℕ} {s : Symbol} → Writes w s → Marked s w
-marked Writes.writes_name = refl
-marked Writes.writes_left = refl
-marked Writes.writes_right = refl
-marked Writes.writes_comma = refl
-marked Writes.writes_turnstile = refl
-marked (Writes.writes_table {b} e l) = (b, refl, e, l)
-marked (Writes.writes_variable e l) = tt
-marked (Writes.writes_constant n) = tt
+is_left : (w : List ℕ) → Writes w Symbol.left → w ≡ 40 ∷ []
+is_left w Writes.writes_left = refl
+
+is_right : (w : List ℕ) → Writes w Symbol.right → w ≡ 41 ∷ []
+is_right w Writes.writes_right = refl
+
+is_comma : (w : List ℕ) → Writes w Symbol.comma → w ≡ 44 ∷ []
+is_comma w Writes.writes_comma = refl
 
 -- over spaces and a mark of one byte
-over_mark : {raw : List ℕ} {s : Symbol} {ss : List Symbol} → Spells raw (s ∷ ss) → (b : ℕ) → ((w : List ℕ) → Marked s w → w ≡ b ∷ [])
+over_mark : {raw : List ℕ} {s : Symbol} {ss : List Symbol} → Spells raw (s ∷ ss) → (b : ℕ) → ((w : List ℕ) → Writes w s → w ≡ b ∷ [])
     → (q p : State) (all : List Said) → next q Blank 32 ≡ Some q → next q (class b) b ≡ Some p → Then p ss all → Leads q raw all
 over_mark h b is q p all skip step go =
     over h q all skip λ w rest x s n.
-    ap (λ l. scan q n (l ++ rest)) (is w (marked x)) ∙ (ap (λ o. onward o n rest) step ∙ go rest s (n + 1))
+    rw (is w x, step) (go rest s (n + 1))
 
 -- within the limits of a constant
 abbrev Fits : List ℕ → Type 0
@@ -85,9 +78,8 @@ digits_lead [] _ ds f d k ts rest all go n = rw append-nil at (go n)
 digits_lead (b ∷ more) g ds f d k ts rest all go n =
     let e = append_assoc ds (b ∷ []) more in
     let f' : Fits ((ds ++ (b ∷ [])) ++ more) = rw e f in
-    ap (λ c. onward (next (State.digits d k ts ds) c b) n (more ++ rest)) (digit_byte b g.0)
-    ∙ (ap (λ o. onward o n (more ++ rest)) (grown_fits d k ts (ds ++ (b ∷ [])) (fits_less (ds ++ (b ∷ [])) more f'))
-    ∙ digits_lead more g.1 (ds ++ (b ∷ [])) f' d k ts rest all (rw e go) (n + 1))
+    rw (digit_byte b g.0, grown_fits d k ts (ds ++ (b ∷ [])) (fits_less (ds ++ (b ∷ [])) more f'))
+    (digits_lead more g.1 (ds ++ (b ∷ [])) f' d k ts rest all (rw e go) (n + 1))
 
 -- over a whole constant
 constant_leads : (raw : List ℕ) → Numeral raw → (d : List Said) (k : ℕ) (ts : List Term) (rest : List ℕ) (all : List Said)
@@ -95,9 +87,7 @@ constant_leads : (raw : List ℕ) → Numeral raw → (d : List Said) (k : ℕ) 
 constant_leads [] (_, l, _, _) d k ts rest all go n = absurd (let z : ⊥ = omega arith in z)
 constant_leads (b ∷ more) (g, l, m, v) d k ts rest all go n =
     let f : Fits (b ∷ more) = (m, v) in
-    ap (λ c. onward (next (State.term d k ts) c b) n (more ++ rest)) (digit_byte b g.0)
-    ∙ (ap (λ o. onward o n (more ++ rest)) (grown_fits d k ts (b ∷ []) (fits_less (b ∷ []) more f))
-    ∙ digits_lead more g.1 (b ∷ []) f d k ts rest all go (n + 1))
+    rw (digit_byte b g.0, grown_fits d k ts (b ∷ []) (fits_less (b ∷ []) more f)) (digits_lead more g.1 (b ∷ []) f d k ts rest all go (n + 1))
 
 -- a comma or a bracket is next
 data Ends : List Symbol → Type 0 where
@@ -120,9 +110,7 @@ module _ (d : List Said) (k : ℕ) (all : List Said) where
   variable_leads : (b v : ℕ) → b ≡ 97 + v → v < 26 → (ts : List Term) (rest : List ℕ)
       → Leads (State.said d k (ts ++ (terms.Variable v ∷ []))) rest all → Leads (State.term d k ts) (b ∷ rest) all
   variable_leads b v e l ts rest go n =
-      let x : b - 97 ≡ v = omega arith in
-      ap (λ c. onward (next (State.term d k ts) c b) n rest) (variable_class b (omega arith) (omega arith))
-      ∙ (ap (λ m. scan (State.said d k (ts ++ (terms.Variable m ∷ []))) (n + 1) rest) x ∙ go (n + 1))
+      let x : b - 97 ≡ v = omega arith in rw (variable_class b (omega arith) (omega arith), x) (go (n + 1))
 
   step_term : (t : Term) (ss : List Symbol) → Ends ss → (ts : List Term) → Then (State.said d k (ts ++ (t ∷ []))) ss all
       → (w rest : List ℕ) → Writes w (Symbol.term t) → Spells rest ss → Leads (State.term d k ts) (w ++ rest) all
@@ -140,26 +128,24 @@ module _ (d : List Said) (k : ℕ) (all : List Said) where
   terms_lead : (ts : List Term) (ss : List Symbol) (before : List Term) → Then (closed (before ++ ts)) ss all
       → Then (State.said d k before) (further term_symbols ts (Symbol.right ∷ ss)) all
   terms_lead [] ss before go raw h =
-      over_mark h 41 (λ w e. e) (State.said d k before) (closed before) all refl refl
-      (subst (λ l. Then (closed l) ss all) (append-nil before) go)
+      over_mark h 41 is_right (State.said d k before) (closed before) all refl refl
+      (rw append-nil at go)
   terms_lead (t ∷ ts) ss before go raw h =
-      over_mark h 44 (λ w e. e) (State.said d k before) (State.term d k before) all refl refl
+      over_mark h 44 is_comma (State.said d k before) (State.term d k before) all refl refl
       (term_leads t (further term_symbols ts (Symbol.right ∷ ss)) (further_ends ts ss) before
       (terms_lead ts ss (before ++ (t ∷ [])) (subst (λ l. Then (closed l) ss all) (sym (append_assoc before (t ∷ []) ts)) go)))
+
+  letter_leads : (w rest : List ℕ) → Writes w (Symbol.table k) → Leads (State.table d k) rest all → Leads (State.atom d) (w ++ rest) all
+  letter_leads w rest (Writes.writes_table {b} e l) go n =
+      let letter : b - 65 ≡ k = omega arith in rw (table_class b (omega arith) (omega arith), letter) (go (n + 1))
 
   atom_leads : (ts : List Term) (ss : List Symbol) → OneOrMore ts → Then (closed ts) ss all
       → Then (State.atom d) (atom_symbols (record { table = k; terms = ts }) ss) all
   atom_leads [] ss none go raw h = absurd none
   atom_leads (t ∷ ts) ss _ go raw h =
-      over h (State.atom d) all refl λ w rest x s n.
-      let m = marked x in
-      let b = m.0 in
-      let letter : b - 65 ≡ k = omega (arith, m.2) in
-      ap (λ l. scan (State.atom d) n (l ++ rest)) m.1
-      ∙ (ap (λ c. onward (next (State.atom d) c b) n rest) (table_class b (omega (arith, m.2)) (omega (arith, m.2, m.3)))
-      ∙ (ap (λ j. scan (State.table d j) (n + 1) rest) letter
-      ∙ over_mark s 40 (λ w e. e) (State.table d k) (State.term d k []) all refl refl
-      (term_leads t (further term_symbols ts (Symbol.right ∷ ss)) (further_ends ts ss) [] (terms_lead ts ss (t ∷ []) go)) (n + 1)))
+      over h (State.atom d) all refl λ w rest x s.
+      letter_leads w rest x (over_mark s 40 is_left (State.table d k) (State.term d k []) all refl refl
+      (term_leads t (further term_symbols ts (Symbol.right ∷ ss)) (further_ends ts ss) [] (terms_lead ts ss (t ∷ []) go)))
 
 ends_lead : {raw : List ℕ} → Spells raw [] → (d : List Said) → Leads (State.end d) raw d
 ends_lead Spells.none d n = refl
@@ -169,17 +155,19 @@ atoms_lead : (new : List Said) → AllByRecursion (λ a. OneOrMore a.terms) new 
     → Then (State.end d) (further atom_symbols new []) (d ++ new)
 atoms_lead [] _ d raw h = rw append-nil (ends_lead h d)
 atoms_lead (a ∷ new) each d raw h =
-    over_mark h 44 (λ w e. e) (State.end d) (State.atom d) (d ++ (a ∷ new)) refl refl
+    over_mark h 44 is_comma (State.end d) (State.atom d) (d ++ (a ∷ new)) refl refl
     (atom_leads d a.table (d ++ (a ∷ new)) a.terms (further atom_symbols new []) each.0
     (subst (Then (State.end (d ++ (a ∷ []))) (further atom_symbols new [])) (append_assoc d (a ∷ []) new) (atoms_lead new each.1 (d ++ (a ∷ [])))))
+
+turnstile_leads : (w rest : List ℕ) (all : List Said) → Writes w Symbol.turnstile → Leads (State.atom []) rest all → Leads State.closed (w ++ rest) all
+turnstile_leads w rest all Writes.writes_turnstile go n = go (n + 1 + 1)
 
 pub complete : (raw : List ℕ) (all : List Said) → Says raw all → Leads State.start raw all
 complete raw [] h = absurd h.some
 complete raw (a ∷ new) h =
-    over_mark h.spells 81 (λ w e. e) State.start State.named (a ∷ new) refl refl
-    λ _ s. over_mark s 40 (λ w e. e) State.named State.opened (a ∷ new) refl refl
-    λ _ s. over_mark s 41 (λ w e. e) State.opened State.closed (a ∷ new) refl refl
+    over_mark h.spells 81 is_name State.start State.named (a ∷ new) refl refl
+    λ _ s. over_mark s 40 is_left State.named State.opened (a ∷ new) refl refl
+    λ _ s. over_mark s 41 is_right State.opened State.closed (a ∷ new) refl refl
     λ _ s. over s State.closed (a ∷ new) refl
-    λ w rest x s n.
-    ap (λ l. scan State.closed n (l ++ rest)) (marked x)
-    ∙ atom_leads [] a.table (a ∷ new) a.terms (further atom_symbols new []) h.each.0 (atoms_lead new h.each.1 (a ∷ [])) rest s (n + 1 + 1)
+    λ w rest x s.
+    turnstile_leads w rest (a ∷ new) x (atom_leads [] a.table (a ∷ new) a.terms (further atom_symbols new []) h.each.0 (atoms_lead new h.each.1 (a ∷ [])) rest s)

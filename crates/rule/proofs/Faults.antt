@@ -2,6 +2,7 @@
 use Rattle.std.proofs.Common.{◌≡◌, ℕ, suc, ◌+◌, ◌<◌, ◌≤◌, List, [], ◌∷◌, ◌++◌, map, length, take, drop, Some, None, Ok, Err, Option, sym, refl, ap, ◌∙◌, subst, inl, inr, append_assoc, add-one, arith}
 use Rattle.std.proofs.lemmas.List.{take-take, take-append-drop}
 use Rattle.std.proofs.lemmas.Bool.{cases_lt, cases_order}
+use Rattle.rule.specs.declared.refusal.Refusal.{Refusal}
 use Rattle.rule.specs.declared.rules.Rule.{Rule}
 use Rattle.rule.specs.Classes.{class}
 use Rattle.rule.specs.Grammar.{Said, Says, Lawful, Continues, BreaksAt}
@@ -9,7 +10,7 @@ use Rattle.rule.specs.Kept.{kept}
 use Rattle.rule.specs.Rules.{atoms_of, Refused, Answered}
 use Rattle.rule.specs.Scanning.{State, next, ended, finish, scan, onward}
 use Rattle.rule.proofs.Complete.{Leads, complete}
-use Rattle.rule.proofs.Sound.{err_not_ok, sound}
+use Rattle.rule.proofs.Sound.{sound}
 
 -- Every state goes on to the end of some lawful text.
 abbrev Completes : State → Type 0
@@ -37,7 +38,7 @@ record Stuck (q : State) (raw : List ℕ) (i : ℕ) : Type 0 where
   dies : i < length raw → (rest : List ℕ) (m : ℕ) → (p : ℕ) × (scan q m (take (suc i) raw ++ rest) ≡ Err p)
 
 stuck_end : (o : Option (List Said)) (n p : ℕ) → finish o n ≡ Err p → p ≡ n
-stuck_end (Some d) n p e = absurd (err_not_ok p d (sym e))
+stuck_end (Some d) n p e = cc
 stuck_end None n p e = cc
 
 -- a step and then stuck, or stuck at once
@@ -53,10 +54,9 @@ stuck_step q b raw n p (Some r) step go e =
         inside = omega (arith, s.inside);
         tail = s.tail;
         all = s.all;
-        lives = λ m. ap (λ o. onward o m (take h.0 raw ++ s.tail)) step ∙ s.lives (m + 1);
+        lives = λ m. rw step (s.lives (m + 1));
         dies = λ l rest m.
-            let k = s.dies (omega arith) rest (m + 1) in
-            (k.0, ap (λ o. onward o m (take (suc h.0) raw ++ rest)) step ∙ k.1);
+            let k = s.dies (omega arith) rest (m + 1) in (k.0, rw step k.1);
       },
     )
 stuck_step q b raw n p None step go e =
@@ -69,7 +69,7 @@ stuck_step q b raw n p None step go e =
         tail = c.0;
         all = c.1;
         lives = c.2;
-        dies = λ l rest m. (m, ap (λ o. onward o m rest) step);
+        dies = λ l rest m. (m, rw step);
       },
     )
 
@@ -81,7 +81,7 @@ stuck [] q n p e =
 stuck (b ∷ raw) q n p e = stuck_step q b raw n p (next q (class b) b) refl (λ r. stuck raw r (n + 1) p) e
 
 unlawful : (raw : List ℕ) (p : ℕ) → scan State.start 0 raw ≡ Err p → Lawful raw → ⊥
-unlawful raw p e l = err_not_ok p l.0 (sym e ∙ complete raw l.0 l.1 0)
+unlawful raw p e l = let c = complete raw l.0 l.1 0 in cc
 
 breaks : (raw : List ℕ) (p : ℕ) → scan State.start 0 raw ≡ Err p → BreaksAt raw p
 breaks raw p e =
@@ -106,10 +106,7 @@ breaks raw p e =
 continues_less : (raw : List ℕ) (i j : ℕ) → i ≤ j → Continues (take j raw) → Continues (take i raw)
 continues_less raw i j h c =
     let t = take j raw in
-    let e : take i raw ++ (drop i t ++ c.0) ≡ t ++ c.0 =
-    ap (λ l. l ++ (drop i t ++ c.0)) (sym (take-take i j raw h))
-    ∙ (sym (append_assoc (take i t) (drop i t) c.0) ∙ ap (λ l. l ++ c.0) (take-append-drop i t)) in
-    (drop i t ++ c.0, rw e c.1)
+    (drop i t ++ c.0, rw (← take-take i j raw h, ← append_assoc (take i t) (drop i t) c.0, take-append-drop i t) c.1)
 
 not_later : (raw : List ℕ) (i j : ℕ) → BreaksAt raw i → BreaksAt raw j → i < j → ⊥
 not_later raw i j (c, inl b) (d, e) h = b.1 (continues_less raw (i + 1) j (omega arith) d)
@@ -118,8 +115,8 @@ not_later raw i j (c, inr b) (d, inr e) h = omega arith
 
 pub one_place : (raw : List ℕ) (i j : ℕ) → Refused raw i → Refused raw j → i ≡ j
 one_place raw i j (inl a) (inl b) = omega arith
-one_place raw i j (inl a) (inr b) = absurd (let z : ⊥ = omega arith in z)
-one_place raw i j (inr a) (inl b) = absurd (let z : ⊥ = omega arith in z)
+one_place raw i j (inl a) (inr b) = omega arith
+one_place raw i j (inr a) (inl b) = omega arith
 one_place raw i j (inr a) (inr b) =
     elim (cases_order i j) [
       | inl e ↦ e
@@ -139,14 +136,14 @@ some_atom : (raw : List ℕ) (all : List Said) → Says raw all → 0 < length a
 some_atom raw [] h = absurd h.some
 some_atom raw (a ∷ all) h = omega arith
 
-pub err_answered : (raw : List ℕ) (at : ℕ) → Refused raw at → Answered raw (Err at)
+pub err_answered : (raw : List ℕ) (at : ℕ) → Refused raw at → Answered raw (Err (record { at = at }))
 err_answered raw at r =
     record {
-      says = λ rule e. absurd (err_not_ok at rule e);
-      ok = (λ h. absurd (err_not_ok at h.0 h.1), λ h. absurd (not_both raw at h.0 h.1 r));
+      says = λ rule e. cc;
+      ok = (λ h. (cc), λ h. absurd (not_both raw at h.0 h.1 r));
       err = λ i. (
-        λ e. let same : at ≡ i = cc in subst (Refused raw) same r,
-        λ s. ap Err (one_place raw at i r s),
+        λ e. let same : ◌≡◌ {A = Refusal} (record { at = at }) (record { at = i }) = cc in subst (λ f. Refused raw f.at) same r,
+        λ s. ap (λ j. Err (record { at = j })) (one_place raw at i r s),
       );
       one = one_reading raw;
       some = some_atom raw;
@@ -158,10 +155,10 @@ ok_answered raw rule all l e m =
     record {
       says = λ other f. let same : rule ≡ other = cc in (all, w, subst (λ r. atoms_of r ≡ map kept all) same m);
       ok = (λ _. (l, (all, w)), λ _. (rule, refl));
-      err = λ i. (λ f. absurd (err_not_ok i rule (sym f)), λ r. absurd (not_both raw i l (all, w) r));
+      err = λ i. (λ f. (cc), λ r. absurd (not_both raw i l (all, w) r));
       one = one_reading raw;
       some = some_atom raw;
     }
 
-pub refused_answered : (raw : List ℕ) (at : ℕ) → length raw ≤ 512 → scan State.start 0 raw ≡ Err at → Answered raw (Err at)
+pub refused_answered : (raw : List ℕ) (at : ℕ) → length raw ≤ 512 → scan State.start 0 raw ≡ Err at → Answered raw (Err (record { at = at }))
 refused_answered raw at l e = err_answered raw at (inr (l, breaks raw at e))

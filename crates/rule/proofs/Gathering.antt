@@ -1,21 +1,26 @@
 -- Atoms, token by token, and the atoms gathered.
-use Rattle.std.proofs.Common.{◌≡◌, ℕ, zero, suc, ◌+◌, ◌-◌, ◌*◌, ◌≤◌, Bool, true, false, cond, ltb, List, [], ◌∷◌, ◌++◌, map, length, get_or, set, Ok, Err, Result, sym, refl, ap, ◌∙◌, arith, length-append, Bor}
+use Rattle.std.proofs.Common.{◌≡◌, ℕ, zero, suc, ◌+◌, ◌-◌, ◌*◌, ◌≤◌, Bool, true, false, ltb, List, [], ◌∷◌, ◌++◌, map, length, get_or, set, Ok, Err, Result, sym, refl, ap, ◌∙◌, arith, length-append, Bor}
 use Rattle.std.proofs.lemmas.List.{map_push}
-use Rattle.std.proofs.lemmas.Bool.{le-ltb, lt-ltb, cond_both, and_from, and_parts}
+use Rattle.std.proofs.lemmas.Bool.Decides.{nat_tests}
+use Rattle.std.proofs.lemmas.Bool.{le-ltb, lt-ltb, and_from}
 use Rattle.rule.specs.declared.tokens.Class.TheVariants.{Open, Close, Comma, Table}
 use Rattle.rule.specs.declared.tokens.Token.{Token}
 use Rattle.rule.specs.declared.tokens.Token.TheVariants as tokens
-use Rattle.rule.specs.declared.atoms.Atom.{Atom}
+use Rattle.rule.specs.declared.rules.Atom.{Atom}
 use Rattle.rule.specs.declared.rules.Rule.{Rule}
-use Rattle.rule.specs.declared.atoms.Term.{Term}
+use Rattle.rule.specs.declared.rules.Term.{Term}
 use Rattle.rule.specs.Grammar.{Said}
-use Rattle.rule.specs.Lexing.{Stands, Ends, Lexed, Found, place_of}
-use Rattle.rule.specs.Parsing.{empty, with_term, TermRead, AtomRead}
-use Rattle.rule.specs.Kept.{kept, all, lettered, fits}
+use Rattle.std.specs.List.{list_all}
+use Rattle.rule.specs.declared.reader.Reader.{Reader}
+use Rattle.rule.specs.declared.refusal.Refusal.{Refusal}
+use Rattle.rule.specs.Tokens.{place_of}
+use Rattle.rule.specs.Lexing.{past_spaces, Moved, Lexed, Found}
+use Rattle.rule.specs.Parsing.{answer_of, Further, ReadsTerm, ReadsAtom, AtomRead}
+use Rattle.rule.specs.Kept.{empty, with_term, kept, lettered, fits}
 use Rattle.rule.specs.Rules.{atoms_of}
-use Rattle.rule.specs.Scanning.{State, scan, answer}
+use Rattle.rule.specs.Scanning.{State, scan}
 use Rattle.rule.proofs.Classing.{kind_at}
-use Rattle.rule.proofs.Walking.{stands, ends, Passes, passes, Refuses, refused}
+use Rattle.rule.proofs.Walking.{steps, ends, Passes, passes, Refuses, refused}
 
 abbrev atom : ℕ → List Term → Said
 atom k ts = record { table = k; terms = ts }
@@ -31,167 +36,153 @@ kept_more k (a ∷ b ∷ c ∷ e ∷ more) t =
     let four = a ∷ b ∷ c ∷ e ∷ [] in
     let n : length ts + 1 ≡ length (ts ++ (t ∷ [])) = omega (arith, length-append ts (t ∷ [])) in
     let s : ltb (length ts) 4 ≡ false = le-ltb (length ts) 4 (omega arith) in
-    ap (λ x. record { table = k; terms = cond x (set four (length ts) t) four; count = length ts + 1 }) s
-    ∙ ap (λ m. record { table = k; terms = four; count = m }) n
+    rw (s, n)
 
-all_set : {X : Type 0} (p : X → Bool) (xs : List X) (i : ℕ) (x : X) → p x ≡ true → all p xs ≡ true → all p (set xs i x) ≡ true
+all_set : {X : Type 0} (p : X → Bool) (xs : List X) (i : ℕ) (x : X) → p x ≡ true → list_all p xs ≡ true → list_all p (set xs i x) ≡ true
 all_set p [] i x h a = refl
-all_set p (y ∷ ys) zero x h a = and_from (p x) (all p ys) h (and_parts (p y) (all p ys) a).1
-all_set p (y ∷ ys) (suc i) x h a = let b = and_parts (p y) (all p ys) a in and_from (p y) (all p (set ys i x)) b.0 (all_set p ys i x h b.1)
-
-pub all_push : {X : Type 0} (p : X → Bool) (xs : List X) (x : X) → all p xs ≡ true → p x ≡ true → all p (xs ++ (x ∷ [])) ≡ true
-all_push p [] x a h = and_from (p x) true h refl
-all_push p (y ∷ ys) x a h = let b = and_parts (p y) (all p ys) a in and_from (p y) (all p (ys ++ (x ∷ []))) b.0 (all_push p ys x b.1 h)
+all_set p (y ∷ ys) zero x h a = grind (arith, nat_tests)
+all_set p (y ∷ ys) (suc i) x h a = grind (arith, nat_tests, all_set p ys i x h)
 
 fits_more : (a : Atom) (t : Term) → fits a ≡ true → lettered t ≡ true → fits (with_term a t) ≡ true
-fits_more a t w l =
-    let b = and_parts (ltb a.table 8) (all lettered a.terms) w in
-    and_from (ltb a.table 8) (all lettered (with_term a t).terms) b.0
-    (cond_both (ltb a.count 4) (set a.terms a.count t) a.terms (λ l. all lettered l ≡ true)
-    (λ _. all_set lettered a.terms a.count t l b.1) (λ _. b.1))
+fits_more a t w l = grind (arith, nat_tests, all_set lettered a.terms a.count t l)
 
--- the atom begun at `from`, before a term at `at`
-pub record Begun (text : List ℕ) (from : ℕ) (a : Atom) (at : ℕ) (ts : List Term) : Type 0 where
+-- the atom begun at a reader, before a further term
+pub record Begun (before : Reader) (a : Atom) (after : Reader) (ts : List Term) : Type 0 where
   pub keeps : a ≡ kept (atom a.table ts)
   pub fit : fits a ≡ true
-  pub moved : from + 2 + length ts ≤ at
-  pub inside : at ≤ length text
-  pub answers : (d : List Said) → answer text (State.atom d) from ≡ answer text (State.term d a.table ts) at
+  pub further : Further before (2 + length ts) after
+  pub answers : (d : List Said) → answer_of before (State.atom d) ≡ answer_of after (State.term d a.table ts)
 
-module _ (text : List ℕ) (from place : ℕ) (s : List ℕ) (h : Stands text from Table place) (e : s ≡ get_or text place 0 ∷ []) where
+module _ {before : Reader} {s : Bor (List ℕ)} {at : ℕ} {mid : Reader} (h : Lexed before (tokens.Table s at) mid) where
   abbrev number : ℕ
-  number = get_or s 0 0 - 65
+  number = get_or s.now 0 0 - 65
 
-  past_letter : (d : List Said) → answer text (State.atom d) from ≡ answer text (State.table d number) (place + 1)
+  first : get_or s.now 0 0 ≡ get_or before.text.now at 0
+  first = ap (λ l. get_or l 0 0) h.begins.1
+
+  past_letter : (d : List Said) → answer_of before (State.atom d) ≡ answer_of mid (State.table d number)
   past_letter d =
-      stands text (State.atom d) refl from Table place h
-      ∙ ap (λ b. answer text (State.table d (b - 65)) (place + 1)) (sym (ap (λ l. get_or l 0 0) e))
+      rw first (steps before (State.atom d) refl (State.table d (get_or before.text.now at 0 - 65)) Table at mid h.begins.0 h.moved refl)
 
-  opened : (r : Result ℕ ℕ) → Found text (place + 1) Open r → (d : List Said) → Passes text (State.table d number) (State.term d number []) (place + 1) r
-  opened r f d = passes text (State.table d number) (State.term d number []) Open (λ c b. refl) refl refl (place + 1) r f
+  opened : (r : Result (Unit {0}) Refusal) (after : Reader) → Found mid Open r after → (d : List Said)
+      → Passes mid (State.table d number) (State.term d number []) r after
+  opened r after f d = passes (State.table d number) (State.term d number []) Open (λ c b. refl) refl refl mid r after f
 
-  pub begun : (at : ℕ) → Found text (place + 1) Open (Ok at) → Begun text from (empty number) at []
-  begun at f =
-      let p = opened (Ok at) f [] in
+  pub begun : (after : Reader) → Found mid Open (Ok tt) after → Begun before (empty number) after []
+  begun after f =
+      let p = (opened (Ok tt) after f []).0 in
+      let k = kind_at Table (get_or before.text.now at 0) h.begins.0.is in
+      let l = first in
       record {
         keeps = refl;
-        fit =
-            (let k = kind_at Table (get_or text place 0) h.is in
-            and_from (ltb number 8) true (lt-ltb number 8 (omega (arith, ap (λ l. get_or l 0 0) e))) refl);
-        moved = omega (arith, h.here, p.0);
-        inside = p.1;
-        answers = λ d. past_letter d ∙ (opened (Ok at) f d).2;
+        fit = and_from (ltb number 8) true (lt-ltb number 8 (omega arith)) refl;
+        further = record { text = p.text ∙ h.moved.text; place = omega (arith, h.begins.0.here, h.moved.place, p.place) };
+        answers = λ d. past_letter d ∙ (opened (Ok tt) after f d).1;
       }
 
-  pub not_begun : (at : ℕ) → Found text (place + 1) Open (Err at) → AtomRead text from (Err at)
-  not_begun at f d = past_letter d ∙ opened (Err at) f d
+  pub not_begun : (e : Refusal) → Found mid Open (Err e) mid → AtomRead before (Err e) mid
+  not_begun e f d = past_letter d ∙ opened (Err e) mid f d
 
-module _ {text : List ℕ} {from : ℕ} {a : Atom} {at : ℕ} {ts : List Term} (g : Begun text from a at ts) where
-  pub no_next : (p : ℕ) → TermRead text at (Err p) → AtomRead text from (Err p)
-  no_next p f d = g.answers d ∙ f d a.table ts
-
-  module _ (t : Term) (end : ℕ) (f : TermRead text at (Ok (t, end))) where
+module _ {before : Reader} {a : Atom} {now : Reader} {ts : List Term} (g : Begun before a now ts) where
+  module _ {t : Term} {mid : Reader} (f : ReadsTerm now t mid) where
     abbrev more : Atom
     more = with_term a t
 
-    keeps_more : more ≡ kept (atom a.table (ts ++ (t ∷ [])))
+    abbrev all : List Term
+    all = ts ++ (t ∷ [])
+
+    keeps_more : more ≡ kept (atom a.table all)
     keeps_more = ap (λ x. with_term x t) g.keeps ∙ kept_more a.table ts t
 
-    answers_more : (d : List Said) → answer text (State.atom d) from ≡ answer text (State.said d a.table (ts ++ (t ∷ []))) end
-    answers_more d = g.answers d ∙ f.3 d a.table ts
+    answers_more : (d : List Said) → answer_of before (State.atom d) ≡ answer_of mid (State.said d a.table all)
+    answers_more d = g.answers d ∙ f.answers d a.table ts
 
-    pub begun_more : (place : ℕ) → Stands text end Comma place → Begun text from more (place + 1) (ts ++ (t ∷ []))
-    begun_more place h =
+    further_more : (least at : ℕ) (after : Reader) → at ≡ past_spaces mid → Moved mid (at + 1) after → least ≤ 4 + length ts → Further before least after
+    further_more least at after e m l =
+        record { text = m.text ∙ (f.further.text ∙ g.further.text); place = omega (arith, g.further.place, f.further.place, m.place) }
+
+    pub begun_more : {at : ℕ} {after : Reader} → Lexed mid (tokens.Comma at) after → Begun before more after all
+    begun_more {at} {after} h =
         record {
           keeps = keeps_more;
-          fit = fits_more a t g.fit f.2;
-          moved = omega (arith, g.moved, f.0, h.here, length-append ts (t ∷ []));
-          inside = omega (arith, h.inside);
-          answers = λ d. answers_more d ∙ stands text (State.said d a.table (ts ++ (t ∷ []))) refl end Comma place h;
+          fit = fits_more a t g.fit f.fit;
+          further = further_more (2 + length all) at after h.begins.here h.moved (omega (arith, length-append ts (t ∷ [])));
+          answers = λ d. answers_more d ∙ steps mid (State.said d a.table all) refl (State.term d a.table all) Comma at after h.begins h.moved refl;
         }
 
-    pub whole : (place : ℕ) → Stands text end Close place → AtomRead text from (Ok (more, place + 1))
-    whole place h = (
-      omega (arith, g.moved, f.0, h.here),
-      omega (arith, h.inside),
-      fits_more a t g.fit f.2,
-      (atom a.table (ts ++ (t ∷ [])), keeps_more, λ d. answers_more d ∙ stands text (State.said d a.table (ts ++ (t ∷ []))) refl end Close place h),
-    )
+    pub whole : {at : ℕ} {after : Reader} → Lexed mid (tokens.Close at) after → ReadsAtom before more after
+    whole {at} {after} h =
+        let said = atom a.table all in
+        record {
+          further = further_more 4 at after h.begins.here h.moved (omega arith);
+          fit = fits_more a t g.fit f.fit;
+          said = said;
+          keeps = keeps_more;
+          answers = λ d. answers_more d ∙ steps mid (State.said d a.table all) refl (State.end (d ++ (said ∷ []))) Close at after h.begins h.moved refl;
+        }
 
     not_part : (k : Token) → ((p : ℕ) → k ≡ tokens.Comma p → ⊥) → ((p : ℕ) → k ≡ tokens.Close p → ⊥)
-        → (d : List Said) → Refuses (State.said d a.table (ts ++ (t ∷ []))) k
-    not_part (tokens.Table s p) c e d = λ b. refl
-    not_part (tokens.Variable s p) c e d = λ b. refl
-    not_part (tokens.Constant s p) c e d = λ b. refl
-    not_part (tokens.Open p) c e d = λ b. refl
+        → (d : List Said) → Refuses (State.said d a.table all) k
     not_part (tokens.Close p) c e d = absurd (e p refl)
     not_part (tokens.Comma p) c e d = absurd (c p refl)
     not_part (tokens.Other p) c e d = λ b k o. rw (o.blank, o.comma, o.close_bracket)
-    not_part (tokens.End p) c e d = refl
+    not_part _ c e d = λ b. refl
 
-    pub no_part : (k : Token) → Lexed text end k → ((p : ℕ) → k ≡ tokens.Comma p → ⊥) → ((p : ℕ) → k ≡ tokens.Close p → ⊥)
-        → AtomRead text from (Err (place_of k))
-    no_part k h c e d = answers_more d ∙ refused text (State.said d a.table (ts ++ (t ∷ []))) refl end k h (not_part k c e d)
+    pub no_part : {k : Token} {after : Reader} → Lexed mid k after → ((p : ℕ) → k ≡ tokens.Comma p → ⊥) → ((p : ℕ) → k ≡ tokens.Close p → ⊥)
+        → AtomRead before (Err (record { at = place_of k })) after
+    no_part {k} h c e d = answers_more d ∙ refused mid (State.said d a.table all) refl k h.begins (not_part k c e d)
 
 -- a token that is no table
 not_table : (k : Token) → ((s : Bor (List ℕ)) (p : ℕ) → k ≡ tokens.Table s p → ⊥) → (d : List Said) → Refuses (State.atom d) k
 not_table (tokens.Table s p) c d = absurd (c s p refl)
-not_table (tokens.Variable s p) c d = λ b. refl
-not_table (tokens.Constant s p) c d = λ b. refl
-not_table (tokens.Open p) c d = λ b. refl
-not_table (tokens.Close p) c d = λ b. refl
-not_table (tokens.Comma p) c d = λ b. refl
 not_table (tokens.Other p) c d = λ b k o. rw (o.blank, o.table)
-not_table (tokens.End p) c d = refl
+not_table _ c d = λ b. refl
 
-pub no_table : (text : List ℕ) (from : ℕ) (k : Token) → Lexed text from k → ((s : Bor (List ℕ)) (p : ℕ) → k ≡ tokens.Table s p → ⊥)
-    → AtomRead text from (Err (place_of k))
-no_table text from k h c d = refused text (State.atom d) refl from k h (not_table k c d)
+pub no_table : {before : Reader} {k : Token} {after : Reader} → Lexed before k after → ((s : Bor (List ℕ)) (p : ℕ) → k ≡ tokens.Table s p → ⊥)
+    → AtomRead before (Err (record { at = place_of k })) after
+no_table {before} {k} h c d = refused before (State.atom d) refl k h.begins (not_table k c d)
 
--- the atoms before one that begins at `at`
-pub record Gathered (text : List ℕ) (rule : Rule) (at : ℕ) (before : List Said) : Type 0 where
+-- the atoms before the one that begins at the reader
+pub record Gathered (text : List ℕ) (rule : Rule) (r : Reader) (before : List Said) : Type 0 where
   pub keeps : atoms_of rule ≡ map kept before
-  pub moved : 5 * rule.count + 5 ≤ at
-  pub inside : at ≤ length text
-  pub answers : scan State.start 0 text ≡ answer text (State.atom before) at
+  pub same : r.text.now ≡ text
+  pub moved : 5 * length (atoms_of rule) + 5 ≤ r.at
+  pub answers : scan State.start 0 text ≡ answer_of r (State.atom before)
 
-module _ {text : List ℕ} {rule : Rule} {at : ℕ} {before : List Said} (g : Gathered text rule at before) where
-  pub no_atom : (p : ℕ) → AtomRead text at (Err p) → scan State.start 0 text ≡ Err p
+module _ {text : List ℕ} {rule : Rule} {now : Reader} {before : List Said} (g : Gathered text rule now before) where
+  pub no_atom : (p : Refusal) → AtomRead now (Err p) now → scan State.start 0 text ≡ Err p.at
   no_atom p f = g.answers ∙ f before
 
-  module _ (a : Atom) (end : ℕ) (f : AtomRead text at (Ok (a, end))) where
-    abbrev pub after : List Said
-    after = before ++ (f.3.0 ∷ [])
+  module _ {a : Atom} {mid : Reader} (f : ReadsAtom now a mid) where
+    abbrev pub all_said : List Said
+    all_said = before ++ (f.said ∷ [])
 
-    answers_after : scan State.start 0 text ≡ answer text (State.end after) end
-    answers_after = g.answers ∙ f.3.2 before
+    answers_after : scan State.start 0 text ≡ answer_of mid (State.end all_said)
+    answers_after = g.answers ∙ f.answers before
 
-    module _ (next_rule : Rule) (n : next_rule.count ≡ rule.count + 1) (m : atoms_of next_rule ≡ atoms_of rule ++ (a ∷ [])) where
-      pub keeps_after : atoms_of next_rule ≡ map kept after
-      keeps_after = m ∙ (ap (λ l. l ++ (a ∷ [])) g.keeps ∙ (ap (λ x. map kept before ++ (x ∷ [])) f.3.1 ∙ sym (map_push kept before f.3.0)))
+    module _ (next_rule : Rule) (m : atoms_of next_rule ≡ atoms_of rule ++ (a ∷ [])) where
+      pub keeps_after : atoms_of next_rule ≡ map kept all_said
+      keeps_after = rw (m, g.keeps, f.keeps) (sym (map_push kept before f.said))
 
-      pub gathered_more : (place : ℕ) → Stands text end Comma place → Gathered text next_rule (place + 1) after
-      gathered_more place h =
+      pub gathered_more : {at : ℕ} {after : Reader} → Lexed mid (tokens.Comma at) after → Gathered text next_rule after all_said
+      gathered_more {at} {after} h =
+          let more = ap length m ∙ length-append (atoms_of rule) (a ∷ []) in
           record {
             keeps = keeps_after;
-            moved = omega (arith, g.moved, f.0, h.here);
-            inside = omega (arith, h.inside);
-            answers = answers_after ∙ stands text (State.end after) refl end Comma place h;
+            same = h.moved.text ∙ (f.further.text ∙ g.same);
+            moved = omega (arith, g.moved, f.further.place, h.begins.here, h.moved.place);
+            answers = answers_after ∙ steps mid (State.end all_said) refl (State.atom all_said) Comma at after h.begins h.moved refl;
           }
 
-    pub ended_here : (place : ℕ) → Ends text end place → scan State.start 0 text ≡ Ok after
-    ended_here place h = answers_after ∙ ends text (State.end after) refl end place h
+    pub ended_here : {at : ℕ} {after : Reader} → Lexed mid (tokens.End at) after → scan State.start 0 text ≡ Ok all_said
+    ended_here {at} h = answers_after ∙ ends mid (State.end all_said) refl at h.begins
 
-    not_end : (k : Token) → ((p : ℕ) → k ≡ tokens.Comma p → ⊥) → ((p : ℕ) → k ≡ tokens.End p → ⊥) → Refuses (State.end after) k
-    not_end (tokens.Table s p) c e = λ b. refl
-    not_end (tokens.Variable s p) c e = λ b. refl
-    not_end (tokens.Constant s p) c e = λ b. refl
-    not_end (tokens.Open p) c e = λ b. refl
-    not_end (tokens.Close p) c e = λ b. refl
+    not_end : (k : Token) → ((p : ℕ) → k ≡ tokens.Comma p → ⊥) → ((p : ℕ) → k ≡ tokens.End p → ⊥) → Refuses (State.end all_said) k
     not_end (tokens.Comma p) c e = absurd (c p refl)
-    not_end (tokens.Other p) c e = λ b k o. rw (o.blank, o.comma)
     not_end (tokens.End p) c e = absurd (e p refl)
+    not_end (tokens.Other p) c e = λ b k o. rw (o.blank, o.comma)
+    not_end _ c e = λ b. refl
 
-    pub no_end : (k : Token) → Lexed text end k → ((p : ℕ) → k ≡ tokens.Comma p → ⊥) → ((p : ℕ) → k ≡ tokens.End p → ⊥)
+    pub no_end : {k : Token} {after : Reader} → Lexed mid k after → ((p : ℕ) → k ≡ tokens.Comma p → ⊥) → ((p : ℕ) → k ≡ tokens.End p → ⊥)
         → scan State.start 0 text ≡ Err (place_of k)
-    no_end k h c e = answers_after ∙ refused text (State.end after) refl end k h (not_end k c e)
+    no_end {k} h c e = answers_after ∙ refused mid (State.end all_said) refl k h.begins (not_end k c e)

@@ -1,5 +1,5 @@
 -- What the reader finds, the text says: for each state, what the bytes ahead of it must spell.
-use Rattle.std.proofs.Common.{◌≡◌, ℕ, ◌+◌, ◌-◌, true, ◌&&◌, eqb, leb, List, [], ◌∷◌, ◌++◌, length, Some, None, Ok, Err, Option, sym, refl, ap, ◌∙◌, subst, append_assoc, append-nil, arith, length-append}
+use Rattle.std.proofs.Common.{◌≡◌, ℕ, ◌+◌, ◌-◌, Bool, true, false, cond, ◌&&◌, eqb, leb, List, [], ◌∷◌, ◌++◌, length, Some, None, Ok, Option, sym, refl, ap, ◌∙◌, subst, append_assoc, append-nil, arith, length-append}
 use Rattle.std.specs.List.{AllByRecursion}
 use Rattle.std.specs.Str.Parse.{AllDigits, digits_value}
 use Rattle.std.proofs.lemmas.Int.Digits.{digits_push}
@@ -7,8 +7,8 @@ use Rattle.std.proofs.lemmas.Str.{digit_value_digit}
 use Rattle.std.proofs.lemmas.Bool.{cond_both, and_parts, leb-true, eqb-true}
 use Rattle.rule.specs.declared.tokens.Class.{Class}
 use Rattle.rule.specs.declared.tokens.Class.TheVariants.{Blank, Name, Open, Close, Colon, Comma, Table, Variable, Digit}
-use Rattle.rule.specs.declared.atoms.Term.{Term}
-use Rattle.rule.specs.declared.atoms.Term.TheVariants as terms
+use Rattle.rule.specs.declared.rules.Term.{Term}
+use Rattle.rule.specs.declared.rules.Term.TheVariants as terms
 use Rattle.rule.specs.Classes.{class, is}
 use Rattle.rule.specs.Grammar.{Said, Symbol, Writes, Spells, Says, Numeral, OneOrMore, further, parted, term_symbols, atom_symbols, rule_symbols}
 use Rattle.rule.specs.Scanning.{State, only, grown, behind_term, next, ended, finish, scan, onward}
@@ -39,10 +39,6 @@ Terms d k before ts new all = (all ≡ d ++ (record { table = k; terms = before 
 
 -- with those before they are all the atoms
 abbrev Makes : State → List Term → List Said → List Said → Type 0
-Makes State.start ts new all = Atoms [] new all
-Makes State.named ts new all = Atoms [] new all
-Makes State.opened ts new all = Atoms [] new all
-Makes State.closed ts new all = Atoms [] new all
 Makes State.colon ts new all = ⊥
 Makes (State.atom d) ts new all = Atoms d new all
 Makes (State.table d k) ts new all = Terms d k [] ts new all × OneOrMore ts
@@ -50,6 +46,7 @@ Makes (State.term d k before) ts new all = Terms d k before ts new all × OneOrM
 Makes (State.digits d k before ds) ts new all = ⊥
 Makes (State.said d k before) ts new all = Terms d k before ts new all
 Makes (State.end d) ts new all = (all ≡ d ++ new) × Each new
+Makes _ ts new all = Atoms [] new all
 
 pub record Between (q : State) (raw : List ℕ) (all : List Said) : Type 0 where
   ts : List Term
@@ -59,17 +56,9 @@ pub record Between (q : State) (raw : List ℕ) (all : List Said) : Type 0 where
 
 -- the bytes ahead, where a token may be begun
 abbrev Rest : State → List ℕ → List Said → Type 0
-Rest State.start raw all = Between State.start raw all
-Rest State.named raw all = Between State.named raw all
-Rest State.opened raw all = Between State.opened raw all
-Rest State.closed raw all = Between State.closed raw all
 Rest State.colon raw all = Between State.closed (58 ∷ raw) all
-Rest (State.atom d) raw all = Between (State.atom d) raw all
-Rest (State.table d k) raw all = Between (State.table d k) raw all
-Rest (State.term d k ts) raw all = Between (State.term d k ts) raw all
 Rest (State.digits d k ts ds) raw all = Numeral ds → Between (State.term d k ts) (ds ++ raw) all
-Rest (State.said d k ts) raw all = Between (State.said d k ts) raw all
-Rest (State.end d) raw all = Between (State.end d) raw all
+Rest q raw all = Between q raw all
 
 abbrev After : Option State → List ℕ → List Said → Type 0
 After (Some q) raw all = Rest q raw all
@@ -121,20 +110,22 @@ module _ (b : ℕ) (raw : List ℕ) (all : List Said) where
   spaced : (q : State) → is (class b) Blank ≡ true → Between q raw all → Between q (b ∷ raw) all
   spaced q e r = rw (kind_of Blank b e) (record { ts = r.ts; new = r.new; makes = r.makes; spells = Spells.space r.spells })
 
+  -- the step that a test chooses
+  either : {X : Type 0} (t : Bool) (p q : Option State) → (t ≡ true → After p raw all → X) → (t ≡ false → After q raw all → X) → After (cond t p q) raw all → X
+  either {X} t p q = cond_both t p q (λ o. After o raw all → X)
+
   -- the one class that may come
   only_back : (q p : State) (want : Class) → (Rest q raw all → Between q raw all) → (Kind want b → Rest p raw all → Between q (b ∷ raw) all)
       → After (only want p (class b) q) raw all → Between q (b ∷ raw) all
   only_back q p want from go =
-      let P : Option State → Type 0 = λ o. After o raw all → Between q (b ∷ raw) all in
-      cond_both (is (class b) Blank) _ _ P (λ e r. spaced q e (from r)) λ _.
-      cond_both (is (class b) want) _ _ P (λ e. go (kind_of want b e)) (λ _. absurd)
+      either (is (class b) Blank) _ _ (λ e r. spaced q e (from r)) λ _.
+      either (is (class b) want) _ _ (λ e. go (kind_of want b e)) (λ _. absurd)
 
   behind_back : (d : List Said) (k : ℕ) (ts : List Term) → After (behind_term d k ts (class b)) raw all → Between (State.said d k ts) (b ∷ raw) all
   behind_back d k ts =
-      let P : Option State → Type 0 = λ o. After o raw all → Between (State.said d k ts) (b ∷ raw) all in
-      cond_both (is (class b) Blank) _ _ P (spaced (State.said d k ts)) λ _.
-      cond_both (is (class b) Comma) _ _ P (λ e r. rw (kind_of Comma b e) (comma_terms d k ts raw all r)) λ _.
-      cond_both (is (class b) Close) _ _ P
+      either (is (class b) Blank) _ _ (spaced (State.said d k ts)) λ _.
+      either (is (class b) Comma) _ _ (λ e r. rw (kind_of Comma b e) (comma_terms d k ts raw all r)) λ _.
+      either (is (class b) Close) _ _
       (λ e r.
       let m : all ≡ d ++ (record { table = k; terms = ts ++ [] } ∷ r.new) =
       r.makes.0 ∙ (append_assoc d (record { table = k; terms = ts } ∷ []) r.new ∙ ap (λ l. d ++ (record { table = k; terms = l } ∷ r.new)) (sym (append-nil ts))) in
@@ -144,8 +135,7 @@ module _ (b : ℕ) (raw : List ℕ) (all : List Said) where
   grown_back : (d : List Said) (k : ℕ) (ts : List Term) (ds : List ℕ) → Kind Digit b → After (grown d k ts (ds ++ (b ∷ []))) raw all
       → AllDigits 10 ds → Between (State.term d k ts) (ds ++ (b ∷ raw)) all
   grown_back d k ts ds e =
-      let P : Option State → Type 0 = λ o. After o raw all → AllDigits 10 ds → Between (State.term d k ts) (ds ++ (b ∷ raw)) all in
-      cond_both (leb (length (ds ++ (b ∷ []))) 10 && leb (digits_value 10 (ds ++ (b ∷ []))) 4294967295) _ _ P
+      either (leb (length (ds ++ (b ∷ []))) 10 && leb (digits_value 10 (ds ++ (b ∷ []))) 4294967295) _ _
       (λ f r g. subst (λ l. Between (State.term d k ts) l all) (append_assoc ds (b ∷ []) raw) (r (numeral_more ds b g e f)))
       (λ _. absurd)
 
@@ -158,8 +148,7 @@ module _ (b : ℕ) (raw : List ℕ) (all : List Said) where
       rw e (put State.opened State.closed raw (41 ∷ []) all Symbol.right Writes.writes_right r r.ts r.new refl r.makes)
   back State.closed = only_back State.closed State.colon Colon (λ r. r) λ e r. rw e r
   back State.colon =
-      let P : Option State → Type 0 = λ o. After o raw all → Between State.closed (58 ∷ b ∷ raw) all in
-      cond_both (eqb b 45) _ _ P
+      either (eqb b 45) _ _
       (λ e r. rw (eqb-true b 45 e) (put State.closed (State.atom []) raw (58 ∷ 45 ∷ []) all Symbol.turnstile Writes.writes_turnstile r r.ts r.new refl r.makes))
       (λ _. absurd)
   back (State.atom d) = only_back (State.atom d) (State.table d (b - 65)) Table (λ r. r) λ e r.
@@ -168,42 +157,28 @@ module _ (b : ℕ) (raw : List ℕ) (all : List Said) where
   back (State.table d k) = only_back (State.table d k) (State.term d k []) Open (λ r. r) λ e r.
       rw e (put (State.table d k) (State.term d k []) raw (40 ∷ []) all Symbol.left Writes.writes_left r r.ts r.new refl r.makes)
   back (State.term d k ts) =
-      let P : Option State → Type 0 = λ o. After o raw all → Between (State.term d k ts) (b ∷ raw) all in
-      cond_both (is (class b) Blank) _ _ P (spaced (State.term d k ts)) λ _.
-      cond_both (is (class b) Variable) _ _ P
+      either (is (class b) Blank) _ _ (spaced (State.term d k ts)) λ _.
+      either (is (class b) Variable) _ _
       (λ e r.
       let f = kind_of Variable b e in
       put_term d k ts (terms.Variable (b - 97)) raw (b ∷ []) all (Writes.writes_variable (omega arith) (omega arith)) r) λ _.
-      cond_both (is (class b) Digit) _ _ P (λ e r. grown_back d k ts [] (kind_of Digit b e) r tt) (λ _. absurd)
+      either (is (class b) Digit) _ _ (λ e r. grown_back d k ts [] (kind_of Digit b e) r tt) (λ _. absurd)
   back (State.digits d k ts ds) =
-      let P : Option State → Type 0 = λ o. After o raw all → Numeral ds → Between (State.term d k ts) (ds ++ (b ∷ raw)) all in
-      cond_both (is (class b) Digit) _ _ P
+      either (is (class b) Digit) _ _
       (λ e r n. grown_back d k ts ds (kind_of Digit b e) r n.0)
       (λ _ r n. put_term d k ts (terms.Constant (digits_value 10 ds)) (b ∷ raw) ds all (Writes.writes_constant n) (behind_back d k (ts ++ (terms.Constant (digits_value 10 ds) ∷ [])) r))
   back (State.said d k ts) = behind_back d k ts
   back (State.end d) = only_back (State.end d) (State.atom d) Comma (λ r. r) λ e r. rw e (comma_atoms d raw all r)
 
-pub err_not_ok : {A B : Type 0} (b : B) (a : A) → Err b ≡ Ok a → ⊥
-err_not_ok b a e = let z : ◌≡◌ {A = ℕ} 0 1 = cc in omega arith
-
 -- where a text may end
 finished : (q : State) (n : ℕ) (all : List Said) → finish (ended q) n ≡ Ok all → Rest q [] all
-finished State.start n all e = absurd (err_not_ok n all e)
-finished State.named n all e = absurd (err_not_ok n all e)
-finished State.opened n all e = absurd (err_not_ok n all e)
-finished State.closed n all e = absurd (err_not_ok n all e)
-finished State.colon n all e = absurd (err_not_ok n all e)
-finished (State.atom d) n all e = absurd (err_not_ok n all e)
-finished (State.table d k) n all e = absurd (err_not_ok n all e)
-finished (State.term d k ts) n all e = absurd (err_not_ok n all e)
-finished (State.digits d k ts ds) n all e = absurd (err_not_ok n all e)
-finished (State.said d k ts) n all e = absurd (err_not_ok n all e)
 finished (State.end d) n all e = let f : d ≡ all = cc in record { ts = []; new = []; makes = (sym f ∙ sym (append-nil d), tt); spells = Spells.none }
+finished _ n all e = cc
 
 behind_step : (o : Option State) (n : ℕ) (raw : List ℕ) (all : List Said)
     → ((q : State) → scan q (n + 1) raw ≡ Ok all → Rest q raw all) → onward o n raw ≡ Ok all → After o raw all
 behind_step (Some q) n raw all rest e = rest q e
-behind_step None n raw all rest e = absurd (err_not_ok n all e)
+behind_step None n raw all rest e = cc
 
 found : (raw : List ℕ) (q : State) (n : ℕ) (all : List Said) → scan q n raw ≡ Ok all → Rest q raw all
 found [] q n all e = finished q n all e

@@ -1,103 +1,100 @@
 -- Terms, token by token.
-use Rattle.std.proofs.Common.{◌≡◌, ℕ, ◌+◌, ◌-◌, ◌<◌, ◌≤◌, cond, List, [], ◌∷◌, ◌++◌, length, get_or, take, drop, Ok, Err, sym, refl, ap, ◌∙◌, subst, inl, inr, arith, Bor}
+use Rattle.std.proofs.Common.{◌≡◌, ℕ, ◌+◌, ◌-◌, ◌<◌, ◌≤◌, List, [], ◌∷◌, ◌++◌, length, get_or, drop, Ok, Err, sym, refl, ap, ◌∙◌, subst, inl, inr, arith, Bor}
 use Rattle.std.specs.Str.Parse.{AllDigits, digits_value}
-use Rattle.std.proofs.lemmas.List.{drop-drop, drop_all, length-take-le, length-drop, take-append-drop}
+use Rattle.std.proofs.lemmas.List.{drop-drop, drop_more, drop_all, length-drop, take-append-drop}
+use Rattle.std.proofs.lemmas.List.Sums.{prefix_len-le-length}
+use Rattle.std.proofs.lemmas.List.Folds.{length-prefix_len}
 use Rattle.std.proofs.lemmas.Bool.{cases_lt, lt-ltb}
 use Rattle.rule.specs.declared.tokens.Class.TheVariants.{Variable, Digit}
 use Rattle.rule.specs.declared.tokens.Token.{Token}
 use Rattle.rule.specs.declared.tokens.Token.TheVariants as tokens
-use Rattle.rule.specs.declared.atoms.Term.{Term}
-use Rattle.rule.specs.declared.atoms.Term.TheVariants as terms
-use Rattle.rule.specs.Classes.{class, run_of}
+use Rattle.rule.specs.declared.rules.Term.{Term}
+use Rattle.rule.specs.declared.rules.Term.TheVariants as terms
+use Rattle.rule.specs.Classes.{class, is, run_of}
 use Rattle.rule.specs.Grammar.{Said}
-use Rattle.rule.specs.Lexing.{Stands, Lexed, place_of}
-use Rattle.rule.specs.Parsing.{NumberRead, TermRead}
-use Rattle.rule.specs.Scanning.{State, grown, behind_term, scan, onward, answer}
-use Rattle.rule.proofs.Classing.{kind_at, other_is, run_le, run_some, run_digits, run_stops}
-use Rattle.rule.proofs.Walking.{at_byte, stands, Refuses, refused}
+use Rattle.rule.specs.declared.reader.Reader.{Reader}
+use Rattle.rule.specs.declared.refusal.Refusal.{Refusal}
+use Rattle.rule.specs.Tokens.{place_of}
+use Rattle.rule.specs.Lexing.{Lexed}
+use Rattle.rule.specs.Numbers.{NumberRead}
+use Rattle.rule.specs.Parsing.{answer_of, ReadsTerm, TermRead}
+use Rattle.rule.specs.Scanning.{State, scan, answer}
+use Rattle.rule.proofs.Classing.{kind_at, other_is, run_some, run_digits, run_stops}
+use Rattle.rule.proofs.Walking.{at_byte, stands, steps, moved, Refuses, refused}
 
-pub variable_read : (text : List ℕ) (from at : ℕ) (s : List ℕ) → Stands text from Variable at → s ≡ get_or text at 0 ∷ []
-    → TermRead text from (Ok (terms.Variable (get_or s 0 0 - 97), at + 1))
-variable_read text from at s h e = (
-  omega (arith, h.here),
-  omega (arith, h.inside),
-  (let k = kind_at Variable (get_or text at 0) h.is in lt-ltb (get_or s 0 0 - 97) 26 (omega (arith, ap (λ l. get_or l 0 0) e))),
-  λ d k ts.
-      stands text (State.term d k ts) refl from Variable at h
-      ∙ ap (λ b. answer text (State.said d k (ts ++ (terms.Variable (b - 97) ∷ []))) (at + 1)) (sym (ap (λ l. get_or l 0 0) e)),
-)
+pub variable_read : {before : Reader} {s : Bor (List ℕ)} {at : ℕ} {after : Reader} → Lexed before (tokens.Variable s at) after
+    → ReadsTerm before (terms.Variable (get_or s.now 0 0 - 97)) after
+variable_read {before} {s} {at} {after} h =
+    let stand = h.begins.0 in
+    let b = get_or before.text.now at 0 in
+    let first : get_or s.now 0 0 ≡ b = ap (λ l. get_or l 0 0) h.begins.1 in
+    let k = kind_at Variable b stand.is in
+    record {
+      further = record { text = h.moved.text; place = omega (arith, stand.here, h.moved.place) };
+      fit = lt-ltb (get_or s.now 0 0 - 97) 26 (omega arith);
+      answers = λ d k ts.
+          rw first (steps before (State.term d k ts) refl (State.said d k (ts ++ (terms.Variable (b - 97) ∷ []))) Variable at after stand h.moved refl);
+    }
 
 -- behind its last digit a constant has ended
 digits_stop : (text : List ℕ) (at : ℕ) → (at < length text → class (get_or text at 0) ≡ Digit → ⊥) → (d : List Said) (k : ℕ) (ts : List Term) (ds : List ℕ)
     → answer text (State.digits d k ts ds) at ≡ answer text (State.said d k (ts ++ (terms.Constant (digits_value 10 ds) ∷ []))) at
 digits_stop text at other d k ts ds =
-    let q = State.digits d k ts ds in
-    let p = State.said d k (ts ++ (terms.Constant (digits_value 10 ds) ∷ [])) in
-    let b = get_or text at 0 in
-    let c = class b in
     elim (cases_lt at (length text)) [
-      | inl l ↦
-          at_byte text q c at l refl
-          ∙ (ap (λ t. onward (cond t (grown d k ts (ds ++ (b ∷ []))) (behind_term d k (ts ++ (terms.Constant (digits_value 10 ds) ∷ [])) c)) at (drop (at + 1) text)) (other_is c Digit (other l))
-          ∙ sym (at_byte text p c at l refl))
-      | inr g ↦ let e = drop_all at text g in ap (scan q at) e ∙ sym (ap (scan p at) e)
+      | inl l ↦ rw (drop_more text at 0 l, other_is (class (get_or text at 0)) Digit (other l))
+      | inr g ↦ rw (drop_all at text g)
     ]
 
-module _ (text : List ℕ) (from at : ℕ) (ds : List ℕ) (h : Stands text from Digit at) (e : ds ≡ take (run_of Digit (drop at text)) (drop at text)) where
-  long : length ds ≡ run_of Digit (drop at text)
-  long = ap length e ∙ length-take-le (run_of Digit (drop at text)) (drop at text) (run_le Digit (drop at text))
+module _ {before : Reader} {s : Bor (List ℕ)} {at : ℕ} {after : Reader} (h : Lexed before (tokens.Constant s at) after) where
+  abbrev text : List ℕ
+  text = before.text.now
 
-  pub constant_digits : AllDigits 10 ds
-  constant_digits = subst (AllDigits 10) (sym e) (run_digits (drop at text))
+  abbrev run : ℕ
+  run = run_of Digit (drop at text)
 
-  pub constant_inside : (from < at + length ds) × (at + length ds ≤ length text)
-  constant_inside =
-      let some = run_some Digit text at h.inside h.is in
-      let l = long in
-      let r = run_le Digit (drop at text) in
-      let n = length-drop at text in
-      (omega (arith, h.here), omega (arith, h.inside))
+  long : length s.now ≡ run
+  long = ap length h.begins.1 ∙ length-prefix_len (λ b. is (class b) Digit) (drop at text)
+
+  pub constant_digits : AllDigits 10 s.now
+  constant_digits = subst (AllDigits 10) (sym h.begins.1) (run_digits (drop at text))
+
+  pub constant_inside : at + length s.now ≤ length text
+  constant_inside = omega (arith, h.begins.0.inside, long, prefix_len-le-length (λ b. is (class b) Digit) (drop at text), length-drop at text)
 
   abbrev rest : List ℕ
-  rest = drop (at + length ds) text
+  rest = drop (at + length s.now) text
 
-  begun : (d : List Said) (k : ℕ) (ts : List Term) → answer text (State.term d k ts) from ≡ scan (State.digits d k ts []) at (ds ++ rest)
+  begun : (d : List Said) (k : ℕ) (ts : List Term) → answer_of before (State.term d k ts) ≡ scan (State.digits d k ts []) at (s.now ++ rest)
   begun d k ts =
-      let n = run_of Digit (drop at text) in
-      let whole : drop at text ≡ ds ++ rest =
-      sym (take-append-drop n (drop at text))
-      ∙ (ap (λ l. l ++ drop n (drop at text)) (sym e) ∙ ap (λ l. ds ++ l) (drop-drop n at text ∙ ap (λ m. drop (at + m) text) (sym long))) in
-      stands text (State.term d k ts) refl from Digit at h
-      ∙ (sym (at_byte text (State.digits d k ts []) Digit at h.inside h.is) ∙ ap (scan (State.digits d k ts []) at) whole)
+      let stand = h.begins.0 in
+      let whole : drop at text ≡ s.now ++ rest = rw (long, h.begins.1, ← drop-drop run at text) (sym (take-append-drop run (drop at text))) in
+      stands before (State.term d k ts) refl Digit at stand
+      ∙ (sym (at_byte text (State.digits d k ts []) Digit at stand.inside stand.is) ∙ ap (scan (State.digits d k ts []) at) whole)
 
-  pub constant_err : (p : ℕ) → NumberRead ds at (Err p) → TermRead text from (Err p)
-  constant_err p f d k ts = begun d k ts ∙ f d k ts rest
+  pub constant_err : (e : Refusal) → NumberRead s.now at (Err e) → TermRead before (Err e) after
+  constant_err e f d k ts = begun d k ts ∙ f d k ts rest
 
-  pub constant_ok : (n : ℕ) → NumberRead ds at (Ok n) → TermRead text from (Ok (terms.Constant n, at + length ds))
+  pub constant_ok : (n : ℕ) → NumberRead s.now at (Ok n) → ReadsTerm before (terms.Constant n) after
   constant_ok n f =
-      let i = constant_inside in (
-        i.0,
-        i.1,
-        refl,
-        λ d k ts.
-            begun d k ts
+      let end = at + length s.now in
+      record {
+        further = record { text = h.moved.text; place = omega (arith, h.begins.0.here, h.moved.place, long, run_some Digit text at h.begins.0.inside h.begins.0.is) };
+        fit = refl;
+        answers = λ d k ts.
+            rw f.0 (begun d k ts
             ∙ (f.1 d k ts rest
-            ∙ (digits_stop text (at + length ds) (run_stops Digit text at (length ds) long) d k ts ds
-            ∙ ap (λ m. answer text (State.said d k (ts ++ (terms.Constant m ∷ []))) (at + length ds)) (sym f.0))),
-      )
+            ∙ (digits_stop text end (run_stops Digit text at (length s.now) long) d k ts s.now
+            ∙ moved before end after h.moved (State.said d k (ts ++ (terms.Constant (digits_value 10 s.now) ∷ []))))));
+      }
 
 -- a token that is no term
 not_term : (t : Token) → ((s : Bor (List ℕ)) (at : ℕ) → t ≡ tokens.Variable s at → ⊥) → ((s : Bor (List ℕ)) (at : ℕ) → t ≡ tokens.Constant s at → ⊥)
     → (d : List Said) (k : ℕ) (ts : List Term) → Refuses (State.term d k ts) t
-not_term (tokens.Table s at) v c d k ts = λ b. refl
 not_term (tokens.Variable s at) v c d k ts = absurd (v s at refl)
 not_term (tokens.Constant s at) v c d k ts = absurd (c s at refl)
-not_term (tokens.Open at) v c d k ts = λ b. refl
-not_term (tokens.Close at) v c d k ts = λ b. refl
-not_term (tokens.Comma at) v c d k ts = λ b. refl
 not_term (tokens.Other at) v c d k ts = λ b k o. rw (o.blank, o.variable, o.digit)
-not_term (tokens.End at) v c d k ts = refl
+not_term _ v c d k ts = λ b. refl
 
-pub no_term : (text : List ℕ) (from : ℕ) (t : Token) → Lexed text from t → ((s : Bor (List ℕ)) (at : ℕ) → t ≡ tokens.Variable s at → ⊥)
-    → ((s : Bor (List ℕ)) (at : ℕ) → t ≡ tokens.Constant s at → ⊥) → TermRead text from (Err (place_of t))
-no_term text from t h v c d k ts = refused text (State.term d k ts) refl from t h (not_term t v c d k ts)
+pub no_term : {before : Reader} {t : Token} {after : Reader} → Lexed before t after → ((s : Bor (List ℕ)) (at : ℕ) → t ≡ tokens.Variable s at → ⊥)
+    → ((s : Bor (List ℕ)) (at : ℕ) → t ≡ tokens.Constant s at → ⊥) → TermRead before (Err (record { at = place_of t })) after
+no_term {before} {t} h v c d k ts = refused before (State.term d k ts) refl t h.begins (not_term t v c d k ts)

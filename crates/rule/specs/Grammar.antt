@@ -2,8 +2,8 @@
 use Rattle.std.specs.Prelude.{◌≡◌, ℕ, ◌+◌, ◌<◌, ◌≤◌, ◌⊎◌, List, [], ◌∷◌, ◌++◌, length, take}
 use Rattle.std.specs.List.{AllByRecursion}
 use Rattle.std.specs.Str.Parse.{AllDigits, digits_value}
-use Rattle.rule.specs.declared.atoms.Term.{Term}
-use Rattle.rule.specs.declared.atoms.Term.TheVariants.{Variable, Constant}
+use Rattle.rule.specs.declared.rules.Term.{Term}
+use Rattle.rule.specs.declared.rules.Term.TheVariants.{Variable, Constant}
 
 -- an atom: its table and its terms, however many
 pub record Said : Type 0 where

@@ -2,6 +2,8 @@ pub mod Classes
 pub mod Grammar
 pub mod Kept
 pub mod Lexing
+pub mod Numbers
 pub mod Parsing
 pub mod Rules
 pub mod Scanning
+pub mod Tokens

@@ -3,8 +3,8 @@ use Rattle.std.specs.Prelude.{ℕ, ◌+◌, ◌-◌, cond, ◌&&◌, List, [], �
 use Rattle.std.specs.Str.Parse.{digits_value}
 use Rattle.rule.specs.declared.tokens.Class.{Class}
 use Rattle.rule.specs.declared.tokens.Class.TheVariants.{Blank, Name, Open, Close, Colon, Comma, Table, Variable, Digit}
-use Rattle.rule.specs.declared.atoms.Term.{Term}
-use Rattle.rule.specs.declared.atoms.Term.TheVariants as terms
+use Rattle.rule.specs.declared.rules.Term.{Term}
+use Rattle.rule.specs.declared.rules.Term.TheVariants as terms
 use Rattle.rule.specs.Classes.{class, is}
 use Rattle.rule.specs.Grammar.{Said}
 
@@ -53,17 +53,8 @@ next (end d) c b = only Comma (atom d) c (end d)
 
 -- where a text may end, with the atoms that it says then
 abbrev pub ended : State → Option (List Said)
-ended start = None
-ended named = None
-ended opened = None
-ended closed = None
-ended colon = None
-ended (atom d) = None
-ended (table d k) = None
-ended (term d k ts) = None
-ended (digits d k ts ds) = None
-ended (said d k ts) = None
 ended (end d) = Some d
+ended _ = None
 
 -- what the reader answers where the text ends: the atoms, or the place
 abbrev pub finish : Option (List Said) → ℕ → Result (List Said) ℕ

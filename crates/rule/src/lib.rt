@@ -1,14 +1,15 @@
 //! Rule texts: which atoms a question asks for, read from its bytes.
 #![tactic(auto)]
 
-mod atoms;
-mod keeping;
+mod numbers;
+mod reader;
 mod reading;
+mod refusal;
 mod rules;
 #[cfg(test)]
 mod tests;
 mod tokens;
 
-pub use atoms::{Atom, Term};
 pub use reading::read;
-pub use rules::Rule;
+pub use refusal::Refusal;
+pub use rules::{Atom, Rule, Term};

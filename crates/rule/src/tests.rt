@@ -1,56 +1,50 @@
 //! The edges of the grammar.
-use super::{Term, read};
+use super::{Refusal, Term, read};
 use std::test::Fail;
 
-// Stands for no place: the text is lawful.
-const LAWFUL: usize = 1000;
-
-// The place where a text is refused.
-fn place(text: &[u8]) -> usize {
-    match read(text) {
-        Ok(_) => LAWFUL,
-        Err(at) => at,
-    }
+// The place where a text is refused, or none where it is lawful.
+fn place(text: &[u8]) -> Option<usize> {
+    read(text).err().map(|refusal| refusal.at)
 }
 
 #[test]
 fn places(rt: HostRuntime) {
-    assert_eq!(rt; place(b""), 0);
-    assert_eq!(rt; place(b"q():-A(a)"), 0);
-    assert_eq!(rt; place(b"Q[):-A(a)"), 1);
-    assert_eq!(rt; place(b"Q(a):-A(a)"), 2);
-    assert_eq!(rt; place(b"Q()-:A(a)"), 3);
-    assert_eq!(rt; place(b"Q(): -A(a)"), 4);
-    assert_eq!(rt; place(b"Q():"), 4);
-    assert_eq!(rt; place(b"Q():-a(a)"), 5);
-    assert_eq!(rt; place(b"Q():-I(a)"), 5);
-    assert_eq!(rt; place(b"Q():-Q(a)"), 5);
-    assert_eq!(rt; place(b"Q():-Aa)"), 6);
-    assert_eq!(rt; place(b"Q():-A()"), 7);
-    assert_eq!(rt; place(b"Q():-A(,a)"), 7);
-    assert_eq!(rt; place(b"Q():-A(B)"), 7);
-    assert_eq!(rt; place(b"Q():-A(ab)"), 8);
-    assert_eq!(rt; place(b"Q():-A(a1)"), 8);
-    assert_eq!(rt; place(b"Q():-A(1 2)"), 9);
-    assert_eq!(rt; place(b"Q():-A(a,)"), 9);
-    assert_eq!(rt; place(b"Q():-A(a),"), 10);
-    assert_eq!(rt; place(b"Q():-A(a),,B(a)"), 10);
-    assert_eq!(rt; place(b"Q():-A(a)B(a)"), 9);
-    assert_eq!(rt; place(b"Q():-A(a)."), 9);
-    assert_eq!(rt; place(b"Q():-A(a)\n"), 9);
-    assert_eq!(rt; place(b"Q():-A(a)\xff"), 9);
-    assert_eq!(rt; place(b"Q():-A(\x80)"), 7);
+    assert_eq!(rt; place(b""), Some(0));
+    assert_eq!(rt; place(b"q():-A(a)"), Some(0));
+    assert_eq!(rt; place(b"Q[):-A(a)"), Some(1));
+    assert_eq!(rt; place(b"Q(a):-A(a)"), Some(2));
+    assert_eq!(rt; place(b"Q()-:A(a)"), Some(3));
+    assert_eq!(rt; place(b"Q(): -A(a)"), Some(4));
+    assert_eq!(rt; place(b"Q():"), Some(4));
+    assert_eq!(rt; place(b"Q():-a(a)"), Some(5));
+    assert_eq!(rt; place(b"Q():-I(a)"), Some(5));
+    assert_eq!(rt; place(b"Q():-Q(a)"), Some(5));
+    assert_eq!(rt; place(b"Q():-Aa)"), Some(6));
+    assert_eq!(rt; place(b"Q():-A()"), Some(7));
+    assert_eq!(rt; place(b"Q():-A(,a)"), Some(7));
+    assert_eq!(rt; place(b"Q():-A(B)"), Some(7));
+    assert_eq!(rt; place(b"Q():-A(ab)"), Some(8));
+    assert_eq!(rt; place(b"Q():-A(a1)"), Some(8));
+    assert_eq!(rt; place(b"Q():-A(1 2)"), Some(9));
+    assert_eq!(rt; place(b"Q():-A(a,)"), Some(9));
+    assert_eq!(rt; place(b"Q():-A(a),"), Some(10));
+    assert_eq!(rt; place(b"Q():-A(a),,B(a)"), Some(10));
+    assert_eq!(rt; place(b"Q():-A(a)B(a)"), Some(9));
+    assert_eq!(rt; place(b"Q():-A(a)."), Some(9));
+    assert_eq!(rt; place(b"Q():-A(a)\n"), Some(9));
+    assert_eq!(rt; place(b"Q():-A(a)\xff"), Some(9));
+    assert_eq!(rt; place(b"Q():-A(\x80)"), Some(7));
 }
 
 #[test]
 fn constants(rt: HostRuntime) {
-    assert_eq!(rt; place(b"Q():-A(4294967295)"), LAWFUL);
-    assert_eq!(rt; place(b"Q():-A(4294967296)"), 16);
-    assert_eq!(rt; place(b"Q():-A(9999999999)"), 16);
-    assert_eq!(rt; place(b"Q():-A(0000000000)"), LAWFUL);
-    assert_eq!(rt; place(b"Q():-A(00000000000)"), 17);
-    assert_eq!(rt; place(b"Q():-A(12345678901)"), 17);
-    assert_eq!(rt; place(b"Q():-A( 1x)"), 9);
+    assert_eq!(rt; place(b"Q():-A(4294967295)"), None);
+    assert_eq!(rt; place(b"Q():-A(4294967296)"), Some(16));
+    assert_eq!(rt; place(b"Q():-A(9999999999)"), Some(16));
+    assert_eq!(rt; place(b"Q():-A(0000000000)"), None);
+    assert_eq!(rt; place(b"Q():-A(00000000000)"), Some(17));
+    assert_eq!(rt; place(b"Q():-A(12345678901)"), Some(17));
+    assert_eq!(rt; place(b"Q():-A( 1x)"), Some(9));
 }
 
 // A lawful text cut at any length can be continued, so it is refused at its length or is lawful.
@@ -60,7 +54,7 @@ fn cuts(rt: HostRuntime) {
     assert_eq!(rt; text.len(), 30);
     for n in 0..31 {
         let lawful = n == 22 || n == 23 || n >= 29;
-        assert_eq!(rt; place(&text[0..n]), if lawful { LAWFUL } else { n });
+        assert_eq!(rt; place(&text[0..n]), if lawful { None } else { Some(n) });
     }
 }
 
@@ -87,8 +81,8 @@ fn atoms(rt: HostRuntime) -> Result<(), Fail> {
 fn longest() -> [u8; 513] {
     let mut text = [b' '; 513];
     let pieces = b"Q():-A(a),";
-    for i in 0..509 {
-        text[i] = pieces[if i < 5 { i } else { 5 + i % 5 }];
+    for (i, byte) in text.iter_mut().take(509).enumerate() {
+        *byte = pieces[if i < 5 { i } else { 5 + i % 5 }];
     }
     text
 }
@@ -96,13 +90,22 @@ fn longest() -> [u8; 513] {
 #[test]
 fn lengths(rt: HostRuntime) -> Result<(), Fail> {
     let mut text = longest();
-    assert_eq!(rt; place(&text), 512);
+    assert_eq!(rt; place(&text), Some(512));
     let Ok(rule) = read(&text[0..512]) else {
         return Err(Fail::new("512 bytes"));
     };
     assert_eq!(rt; rule.atoms().len(), 101);
     text[0] = b'!';
-    assert_eq!(rt; place(&text), 512);
-    assert_eq!(rt; place(&text[0..512]), 0);
+    assert_eq!(rt; place(&text), Some(512));
+    assert_eq!(rt; place(&text[0..512]), Some(0));
+    Ok(())
+}
+
+#[test]
+fn message(rt: HostRuntime) -> Result<(), Fail> {
+    assert_eq!(rt;
+        Refusal { at: 7 }.to_string(rt.alloc())?.as_str(),
+        "refused at byte 7"
+    );
     Ok(())
 }

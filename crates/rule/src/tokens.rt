@@ -1,10 +1,10 @@
-//! The tokens of a rule text.
-ghost use Rattle.std.specs.Prelude.{◌≡◌, ◌+◌, ◌<◌, ◌≤◌, length, ◌≢◌, slice_index};
+//! The tokens of a rule text, and the classes of bytes.
+ghost use Rattle.std.specs.Prelude.{◌≡◌, ◌≤◌, length};
 ghost use Rattle.rule.specs.Classes.{class, run_of};
-ghost use Rattle.rule.specs.Lexing.{Lexed, Found, place_of, past_spaces};
+ghost use Rattle.rule.specs.Tokens.{place_of, length_of};
 
 // What a byte may be, or may begin.
-#[derive(Clone, Copy, PartialEq, Eq)]
+#[derive(Clone, Copy, PartialEq, Eq, Debug)]
 pub(super) enum Class {
     Blank,
     Name,
@@ -18,9 +18,47 @@ pub(super) enum Class {
     Other,
 }
 
+impl From<char> for Class {
+    ghost from_gives = { λ c kind. kind ≡ class c };
+
+    fn from(c: char) -> Class {
+        match c {
+            ' ' => Class::Blank,
+            'Q' => Class::Name,
+            '(' => Class::Open,
+            ')' => Class::Close,
+            ':' => Class::Colon,
+            ',' => Class::Comma,
+            'A'..='H' => Class::Table,
+            'a'..='z' => Class::Variable,
+            '0'..='9' => Class::Digit,
+            _ => Class::Other,
+        }
+    }
+}
+
+impl From<u8> for Class {
+    ghost from_gives = { λ byte kind. kind ≡ class byte };
+
+    fn from(byte: u8) -> Class {
+        Class::from(char::from(byte))
+    }
+}
+
+// How many bytes of the class the text begins with.
+pub(super) fn run_of(text: &[u8], class: Class) -> usize
+    ensures is { result ≡ run_of class text.now }
+    ensures within { result ≤ length text.now }
+{
+    text.iter()
+        .take_while(|byte| Class::from(**byte) == class)
+        .count()
+}
+
 // A token with the place of its first byte; a table, a variable and a constant with their bytes too.
-#[derive(Clone, Copy)]
+#[derive(Clone, Copy, PartialEq, Eq, Debug)]
 pub(super) enum Token<'a> {
+    // Each case has its place, so that a match has it beside the bytes.
     Table(&'a [u8], usize),
     Variable(&'a [u8], usize),
     Constant(&'a [u8], usize),
@@ -29,79 +67,6 @@ pub(super) enum Token<'a> {
     Comma(usize),
     Other(usize),
     End(usize),
-}
-
-// The class of a character.
-fn class_of(c: char) -> Class
-    ensures { result ≡ class c }
-{
-    match c {
-        ' ' => Class::Blank,
-        'Q' => Class::Name,
-        '(' => Class::Open,
-        ')' => Class::Close,
-        ':' => Class::Colon,
-        ',' => Class::Comma,
-        'A'..='H' => Class::Table,
-        'a'..='z' => Class::Variable,
-        '0'..='9' => Class::Digit,
-        _ => Class::Other,
-    }
-}
-
-// How many bytes of the class the text begins with.
-fn run_of(text: &[u8], class: Class) -> usize
-    ensures is { result ≡ run_of class text.now }
-    ensures within { result ≤ length text.now }
-{
-    match text {
-        [first, rest @ ..] if class_of(char::from(*first)) == class => 1 + run_of(rest, class),
-        _ => 0,
-    }
-}
-
-// The first place from here on that holds no space.
-fn skip(text: &[u8], from: usize) -> usize
-    requires { from ≤ length text.now }
-    ensures is { result ≡ past_spaces text.now from }
-    ensures ahead { (from ≤ result) × (result ≤ length text.now) }
-    ensures stops { result < length text.now → class (slice_index text.now result) ≢ Class.Blank }
-{
-    from + run_of(&text[from..], Class::Blank)
-}
-
-// The place behind a mark of the class, over spaces; or the place where another byte or none stands.
-pub(super) fn mark(text: &[u8], from: usize, class: Class) -> Result<usize, usize>
-    requires { from ≤ length text.now }
-    ensures { Found text.now from class result }
-{
-    let at = skip(text, from);
-    if at < text.len() && class_of(char::from(text[at])) == class {
-        Ok(at + 1)
-    } else {
-        Err(at)
-    }
-}
-
-// The token from here on, over spaces.
-pub(super) fn next_token(text: &[u8], from: usize) -> Token<'_>
-    requires { from ≤ length text.now }
-    ensures { Lexed text.now from result }
-{
-    let at = skip(text, from);
-    if at == text.len() {
-        return Token::End(at);
-    }
-    let rest = &text[at..];
-    match class_of(char::from(text[at])) {
-        Class::Table => Token::Table(&rest[0..1], at),
-        Class::Variable => Token::Variable(&rest[0..1], at),
-        Class::Digit => Token::Constant(&rest[0..run_of(rest, Class::Digit)], at),
-        Class::Open => Token::Open(at),
-        Class::Close => Token::Close(at),
-        Class::Comma => Token::Comma(at),
-        Class::Blank | Class::Name | Class::Colon | Class::Other => Token::Other(at),
-    }
 }
 
 impl Token<'_> {
@@ -113,6 +78,18 @@ impl Token<'_> {
             Token::Table(_, at) | Token::Variable(_, at) | Token::Constant(_, at) => at,
             Token::Open(at) | Token::Close(at) | Token::Comma(at) => at,
             Token::Other(at) | Token::End(at) => at,
+        }
+    }
+
+    // How many bytes a reader goes over with the token.
+    pub(super) fn len(self) -> usize
+        ensures { result ≡ length_of self.entry }
+    {
+        match self {
+            Token::Table(..) | Token::Variable(..) => 1,
+            Token::Constant(digits, _) => digits.len(),
+            Token::Open(_) | Token::Close(_) | Token::Comma(_) => 1,
+            Token::Other(_) | Token::End(_) => 0,
         }
     }
 }

@@ -9,7 +9,7 @@ use super::Scale;
 const MOST: u64 = 1_000_000_000;
 
 /// A whole number up to 1,000,000,000.
-#[derive(Clone, Copy)]
+#[derive(Clone, Copy, PartialEq, Eq, Debug)]
 pub struct Count {
     number: u64,
     ghost small: { number ≤ 1000000000 },

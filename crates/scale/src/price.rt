@@ -5,7 +5,7 @@ ghost use Rattle.scale.specs.Prices.{prices};
 use super::Scale;
 
 /// A price: the sum is the smaller; the product adds, and stops at the largest number.
-#[derive(Clone, Copy)]
+#[derive(Clone, Copy, PartialEq, Eq, Debug)]
 pub struct Price(pub u64);
 
 impl Scale for Price {

@@ -7,12 +7,12 @@ use Rattle.std.proofs.ByRecursion.{All-get_or, All-append}
 use Rattle.std.proofs.lemmas.List.{get_or_at, get_or_append_left, get_or-map, get_or-take, length-map}
 use Rattle.std.proofs.lemmas.Str.Parse.{digit_from_value}
 use Rattle.std.proofs.lemmas.Bool.{cond_both, ltb-true, ltb-false}
-use Rattle.table_files.specs.declared.Row.{Row}
+use Rattle.table_files.specs.declared.rows.Row.{Row}
 use Rattle.table_files.specs.Grammar.{COMMA, CR, LF, NonEscaped, Field, Record, File}
 use Rattle.table_files.specs.Tables.{Numeral, LawfulHeader, LawfulRow, cell, row_of, sure}
 use Rattle.table_files.specs.Written.{piece, line, column, columns, names, decimals, fields, header_text, row_text, RowOfWidth, WrittenReadsBack}
 use Rattle.table_files.proofs.Reached.{NonEmpty, non_empty}
-use Rattle.table_files.proofs.Writing.{decimal_short, header_length, row_length}
+use Rattle.table_files.proofs.Texts.{decimal_short, header_length, row_length}
 
 -- a value that is written as it is
 abbrev Bare : List ℕ → Type 0

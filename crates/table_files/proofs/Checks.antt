@@ -2,9 +2,9 @@
 use Rattle.std.proofs.Common.{◌≡◌, ℕ, ◌+◌, ◌<◌, ◌≤◌, true, false, List, [], ◌∷◌, ◌++◌, length, get_or, take, drop, Some, None, sym, refl, ap, ◌∙◌, inl, inr, append_assoc, arith, length-take}
 use Rattle.std.proofs.lemmas.List.{take_more, take-take, take-append-drop, take_all}
 use Rattle.std.proofs.lemmas.Bool.{false≢true, cases_order}
-use Rattle.table_files.specs.declared.State.TheVariants.{Before}
-use Rattle.table_files.specs.declared.Reader.{Reader}
-use Rattle.table_files.specs.Steps.{class_of, at, next, done}
+use Rattle.table_files.specs.declared.reader.State.TheVariants.{Before}
+use Rattle.table_files.specs.declared.reader.Reader.{Reader}
+use Rattle.table_files.specs.Steps.{class_of, at, moved, done}
 use Rattle.table_files.specs.Grammar.{Lawful, Continues, BreaksAt, Breaks}
 use Rattle.table_files.proofs.Runs.{step, run, start, run_append, file_runs, place_runs, dead}
 use Rattle.table_files.proofs.Reached.{Reached, reached_start, reached_more, accept, continues, placed, few}
@@ -36,7 +36,7 @@ one_place raw r f s g a b =
     let y = place_runs b.2 in
     let z : Some (at x.0 r f) ≡ Some (at y.0 s g) = sym x.1 ∙ (ap (λ i. run start (take i raw)) e ∙ y.1) in
     let u : at x.0 r f ≡ at y.0 s g = cc in
-    (ap (λ k. k.«record») u, ap (λ k. k.field) u)
+    (ap (λ k. k.place.«record») u, ap (λ k. k.place.field) u)
 
 pub not_both : (raw : List ℕ) (r f : ℕ) → Lawful raw → Breaks raw r f → ⊥
 not_both raw r f l (i, (c, inl b), p) = b.1 (drop (i + 1) raw, rw take-append-drop l)
@@ -50,7 +50,7 @@ pub record Sofar (raw : List ℕ) (i : ℕ) (x : Reader) : Type 0 where
 pub sofar_none : (raw : List ℕ) → Sofar raw 0 (at Before 1 1)
 sofar_none raw = record { runs = refl; reached = reached_start }
 
-pub sofar_few : (raw : List ℕ) (i : ℕ) (x : Reader) → Sofar raw i x → (x.«record» ≤ i + 1) × (x.field ≤ i + 1)
+pub sofar_few : (raw : List ℕ) (i : ℕ) (x : Reader) → Sofar raw i x → (x.place.«record» ≤ i + 1) × (x.place.field ≤ i + 1)
 sofar_few raw i x h =
     let l = length-take i raw in
     let k = few (take i raw) x h.reached in
@@ -64,11 +64,11 @@ module _ (raw : List ℕ) (i : ℕ) (x : Reader) (h : Sofar raw i x) (lt : i < l
   runs_more =
       ap (run start) (take_more raw i 0 lt) ∙ (run_append start (take i raw) (here ∷ []) ∙ ap (λ o. step o here) h.runs)
 
-  pub sofar_more : (y : Reader) → next x.state (class_of here) x.«record» x.field ≡ Some y → Sofar raw (i + 1) y
+  pub sofar_more : (y : Reader) → moved x (class_of here) ≡ Some y → Sofar raw (i + 1) y
   sofar_more y e =
       record { runs = runs_more ∙ e; reached = rw (take_more raw i 0 lt) (reached_more (take i raw) here x y h.reached e) }
 
-  pub breaks_here : next x.state (class_of here) x.«record» x.field ≡ None → Breaks raw x.«record» x.field
+  pub breaks_here : moved x (class_of here) ≡ None → Breaks raw x.place.«record» x.place.field
   breaks_here e =
       (i, (continues (take i raw) x h.reached, inl (lt, dead (take (i + 1) raw) (runs_more ∙ e))), placed (take i raw) x h.reached)
 
@@ -86,5 +86,5 @@ module _ (raw : List ℕ) (i : ℕ) (x : Reader) (h : Sofar raw i x) (e : i ≡ 
       let u : x ≡ k.0 = cc in
       false≢true (sym d ∙ (ap (λ y. done y.state) u ∙ k.2))
 
-  pub breaks_end : done x.state ≡ false → Breaks raw x.«record» x.field
+  pub breaks_end : done x.state ≡ false → Breaks raw x.place.«record» x.place.field
   breaks_end d = (i, (continues (take i raw) x h.reached, inr (e, unlawful_all d)), placed (take i raw) x h.reached)

@@ -1,11 +1,12 @@
 -- What stands in a field, and the value that it says: the same bytes, unless both have a quote.
-use Rattle.std.proofs.Common.{◌≡◌, ℕ, ◌-◌, ◌<◌, Bool, true, false, ◌||◌, eqb, ◌⊎◌, List, [], ◌∷◌, ◌++◌, length, get_or, take, drop, Some, None, Option, sym, refl, ap, ◌∙◌, subst, inl, inr, arith, length-append, MatchOption}
+use Rattle.std.proofs.Common.{◌≡◌, ℕ, ◌-◌, ◌<◌, Bool, true, false, ◌||◌, eqb, ◌⊎◌, List, [], ◌∷◌, length, get_or, Some, None, Option, sym, refl, ap, ◌∙◌, subst, inl, inr, arith, MatchOption, ◌+◌, ◌≤◌, Decides}
+use Rattle.std.specs.Bool.{then_some}
 use Rattle.std.specs.Str.Parse.{AllDigits, digits_value}
-use Rattle.std.proofs.lemmas.List.{take_at}
 use Rattle.std.proofs.lemmas.Str.Parse.{digit_from_value}
 use Rattle.std.proofs.lemmas.Bool.{false≢true}
-use Rattle.table_files.specs.Grammar.{DQUOTE, NonEscaped, Inside, Field}
-use Rattle.table_files.specs.Places.{Content, Number}
+use Rattle.table_files.specs.Grammar.{DQUOTE, NonEscaped, Inside}
+use Rattle.table_files.specs.Fields.{Content}
+use Rattle.table_files.specs.Places.{Number, Width}
 use Rattle.table_files.specs.Tables.{Numeral, sure}
 
 -- a quote stands in the list
@@ -43,10 +44,6 @@ module _ (last : Bool) (raw v : List ℕ) (h : Content raw v) where
         | inr q ↦ elim k [ inl n ↦ absurd (no_quote q.1 n.2) | inr n ↦ absurd (not_nil q.1 n.0) ]
       ]
 
-  pub number_none : last ≡ true → raw ≡ [] → Number last v None
-  number_none t e k =
-      elim (kept_content k) [ inl m ↦ omega (arith, ap length e) | inr m ↦ false≢true (sym m.1 ∙ t) ]
-
   number_some : (n : ℕ) → Numeral raw → n ≡ digits_value 10 raw → Number last v (Some n)
   number_some n k e =
       elim (same_content h) [
@@ -58,25 +55,7 @@ module _ (last : Bool) (raw v : List ℕ) (h : Content raw v) where
   number_of None l n = λ k. elim (kept_content k) [ inl m ↦ n m | inr m ↦ omega (arith, ap length m.0) ]
   number_of (Some n) l k = number_some n k.0 k.1
 
-  pub number_blank : last ≡ false → raw ≡ [] → Number last v (Some 0)
-  number_blank f e =
-      elim (same_content h) [
-        | inl s ↦ (inr (sym s ∙ e, f), ap (digits_value 10) (sym (sym s ∙ e)))
-        | inr q ↦ absurd (not_nil q.0 e)
-      ]
-
 -- the quotes around a field
-
-pub content_quoted : {raw v : List ℕ} → Field raw v → 1 < length raw → get_or raw 0 0 ≡ DQUOTE → Content (take (length raw - 1 - 1) (drop 1 raw)) v
-content_quoted {v = v} (Field.escaped {raw = w} i) l e =
-    let n : length w ≡ length (DQUOTE ∷ (w ++ (DQUOTE ∷ []))) - 1 - 1 = omega (arith, length-append w (DQUOTE ∷ [])) in
-    inr (subst (λ t. Inside t v) (sym (take_at w (DQUOTE ∷ []) _ n)) i)
-content_quoted (Field.plain NonEscaped.none) l e = absurd (omega arith)
-content_quoted (Field.plain (NonEscaped.more x n)) l e = absurd (omega arith)
-
-pub content_plain : {raw v : List ℕ} → Field raw v → (1 < length raw → get_or raw 0 0 ≡ DQUOTE → ⊥) → Content raw v
-content_plain (Field.escaped {raw = w} i) o = absurd (o (omega (arith, length-append w (DQUOTE ∷ []))) refl)
-content_plain (Field.plain n) o = inl n
 
 -- the name of a header's last field
 
@@ -100,3 +79,12 @@ sure_content h e = elim (same_content h) [ inl s ↦ sym s ∙ e | inr q ↦ abs
 
 pub sure_value : {raw v : List ℕ} → Content raw v → v ≡ sure → raw ≡ sure
 sure_value h e = elim (same_content h) [ inl s ↦ s ∙ e | inr q ↦ absurd (no_quote_sure q.1 e) ]
+
+pub sure_width : (names : List (List ℕ)) (w : ℕ) (raw : List ℕ) → w + 1 ≡ length names → 2 ≤ length names → length names ≤ 5 → Content raw (get_or names w []) →
+    (b : Bool) → Decides b (raw ≡ sure) → Width names (then_some b w)
+sure_width names w raw n lo hi t true d =
+    let e : length names - 1 ≡ w = omega arith in
+    ((lo, hi, ap (λ k. get_or names k []) e ∙ sure_content t (d.0 refl)), n)
+sure_width names w raw n lo hi t false d = λ l.
+    let e : length names - 1 ≡ w = omega arith in
+    false≢true (d.1 (sure_value t (sym (ap (λ k. get_or names k []) e) ∙ l.2)))

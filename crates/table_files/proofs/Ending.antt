@@ -2,14 +2,14 @@
 use Rattle.std.proofs.Common.{◌≡◌, ℕ, suc, ◌+◌, ◌<◌, ◌≤◌, Bool, true, false, ◌&&◌, ◌⊎◌, List, [], ◌∷◌, ◌++◌, length, get_or, drop, Some, None, Option, sym, refl, ap, ◌∙◌, subst, inl, inr, append_assoc, arith, length-append}
 use Rattle.std.proofs.lemmas.List.{drop_more, drop_all}
 use Rattle.std.proofs.lemmas.Bool.{false≢true}
-use Rattle.table_files.specs.declared.Class.{Class}
-use Rattle.table_files.specs.declared.Class.TheVariants.{Comma, Quote, Cr, Lf, Text, Other}
-use Rattle.table_files.specs.declared.State.{State}
-use Rattle.table_files.specs.declared.State.TheVariants.{Before, Plain, Quoted, AfterQuote, AfterCr}
-use Rattle.table_files.specs.declared.Reader.{Reader}
-use Rattle.table_files.specs.Steps.{class_of, at, next, done, parts}
+use Rattle.table_files.specs.declared.reader.Class.{Class}
+use Rattle.table_files.specs.declared.reader.Class.TheVariants.{Comma, Quote, Cr, Lf, Text, Other}
+use Rattle.table_files.specs.declared.reader.State.{State}
+use Rattle.table_files.specs.declared.reader.State.TheVariants.{Before, Plain, Quoted, AfterQuote, AfterCr}
+use Rattle.table_files.specs.declared.reader.Reader.{Reader}
+use Rattle.table_files.specs.Steps.{class_of, at, moved, next, done, parts}
 use Rattle.table_files.specs.Grammar.{DQUOTE, NonEscaped, Inside, Field}
-use Rattle.table_files.specs.Places.{Ends, all, comma, line, EndsAt}
+use Rattle.table_files.specs.Fields.{Ends, all, comma, line, EndsAt}
 use Rattle.table_files.proofs.Runs.{text_class, inner_stays}
 
 abbrev passed : Bool → Option Reader → (Reader → ℕ) → ℕ
@@ -21,7 +21,7 @@ passed false (Some y) k = suc (k y)
 abbrev pub span : Reader → List ℕ → ℕ
 span x [] = 0
 span x (b ∷ s) =
-    passed (done x.state && parts (class_of b)) (next x.state (class_of b) x.«record» x.field) (λ y. span y s)
+    passed (done x.state && parts (class_of b)) (moved x (class_of b)) (λ y. span y s)
 
 abbrev first : Reader
 first = at Before 1 1
@@ -59,14 +59,14 @@ module _ {t : List ℕ} (e : Ends t) where
   field_span (Field.plain (NonEscaped.more {b} {raw} x n)) =
       ap (λ c. passed (done Before && parts c) (next Before c 1 1) (λ y. span y (raw ++ t))) (text_class b x) ∙ ap suc (plain_span n)
 
-pub span_ends : (text : List ℕ) (start i : ℕ) → i ≡ start + span first (drop start text) → EndsAt text start i
-span_ends text start i h raw value rest e fd en = h ∙ ap (λ n. start + n) (ap (span first) e ∙ field_span en fd)
+pub span_ends : (text : List ℕ) (i : ℕ) → i ≡ span first text → EndsAt text i
+span_ends text i h raw value rest e fd en = h ∙ (ap (span first) e ∙ field_span en fd)
 
 -- within a field the reader stays in its record and field
 
 abbrev pub Stayed : Option Reader → Type 0
 Stayed None = Unit {0}
-Stayed (Some y) = (y.«record» ≡ 1) × (y.field ≡ 1) × (y.state ≡ AfterCr → ⊥)
+Stayed (Some y) = (y.place.«record» ≡ 1) × (y.place.field ≡ 1) × (y.state ≡ AfterCr → ⊥)
 
 not_cr : (q : State) → (q ≡ Plain) ⊎ ((q ≡ Quoted) ⊎ (q ≡ AfterQuote)) → q ≡ AfterCr → ⊥
 not_cr q (inl e) h = let z : ◌≡◌ {A = ℕ} 0 1 = cc in omega arith
@@ -109,41 +109,37 @@ stay AfterQuote Text a p = tt
 stay AfterQuote Other a p = tt
 stay AfterCr c a p = absurd (a refl)
 
--- the reader x at byte i of the field that starts at a byte
-pub record InsideField (text : List ℕ) (start i : ℕ) (x : Reader) : Type 0 where
+-- the reader x at byte i of the field that a text begins with
+pub record InsideField (text : List ℕ) (i : ℕ) (x : Reader) : Type 0 where
   pub stayed : Stayed (Some x)
-  pub left : i + span x (drop i text) ≡ start + span first (drop start text)
+  pub left : i + span x (drop i text) ≡ span first text
 
-pub inside_none : (text : List ℕ) (start : ℕ) → InsideField text start start first
-inside_none text start =
-    record { stayed = (refl, refl, λ e. let z : ◌≡◌ {A = ℕ} 0 1 = cc in omega arith); left = refl }
-
-module _ (text : List ℕ) (start i : ℕ) (x : Reader) (h : InsideField text start i x) where
-  pub inside_all : length text ≤ i → i ≡ start + span first (drop start text)
+module _ (text : List ℕ) (i : ℕ) (x : Reader) (h : InsideField text i x) where
+  pub inside_all : length text ≤ i → i ≡ span first text
   inside_all l = omega (arith, h.left, ap (span x) (drop_all i text l))
 
   module _ (lt : i < length text) where
     abbrev b : ℕ
     b = get_or text i 0
 
-    here : (p : Bool) (o : Option Reader) → (done x.state && parts (class_of b)) ≡ p → next x.state (class_of b) x.«record» x.field ≡ o →
-        i + passed p o (λ y. span y (drop (i + 1) text)) ≡ start + span first (drop start text)
+    here : (p : Bool) (o : Option Reader) → (done x.state && parts (class_of b)) ≡ p → moved x (class_of b) ≡ o →
+        i + passed p o (λ y. span y (drop (i + 1) text)) ≡ span first text
     here p o e f =
-        subst (λ q. i + passed q o (λ y. span y (drop (i + 1) text)) ≡ start + span first (drop start text)) e
-        (subst (λ q. i + passed (done x.state && parts (class_of b)) q (λ y. span y (drop (i + 1) text)) ≡ start + span first (drop start text)) f
+        subst (λ q. i + passed q o (λ y. span y (drop (i + 1) text)) ≡ span first text) e
+        (subst (λ q. i + passed (done x.state && parts (class_of b)) q (λ y. span y (drop (i + 1) text)) ≡ span first text) f
         (ap (λ s. i + span x s) (sym (drop_more text i 0 lt)) ∙ h.left))
 
-    pub inside_ended : (done x.state && parts (class_of b)) ≡ true → i ≡ start + span first (drop start text)
+    pub inside_ended : (done x.state && parts (class_of b)) ≡ true → i ≡ span first text
     inside_ended e = omega (arith, here true _ e refl)
 
-    pub inside_stuck : (done x.state && parts (class_of b)) ≡ false → next x.state (class_of b) x.«record» x.field ≡ None →
-        i ≡ start + span first (drop start text)
+    pub inside_stuck : (done x.state && parts (class_of b)) ≡ false → moved x (class_of b) ≡ None →
+        i ≡ span first text
     inside_stuck e f = omega (arith, here false None e f)
 
-    pub inside_more : (y : Reader) → (done x.state && parts (class_of b)) ≡ false → next x.state (class_of b) x.«record» x.field ≡ Some y →
-        InsideField text start (i + 1) y
+    pub inside_more : (y : Reader) → (done x.state && parts (class_of b)) ≡ false → moved x (class_of b) ≡ Some y →
+        InsideField text (i + 1) y
     inside_more y e f =
         let s = stay x.state (class_of b) h.stayed.2 e in
         let f' : next x.state (class_of b) 1 1 ≡ Some y =
-        ap (λ n. next x.state (class_of b) n 1) (sym h.stayed.0) ∙ (ap (next x.state (class_of b) x.«record») (sym h.stayed.1) ∙ f) in
+        ap (λ n. next x.state (class_of b) n 1) (sym h.stayed.0) ∙ (ap (next x.state (class_of b) x.place.«record») (sym h.stayed.1) ∙ f) in
         record { stayed = subst Stayed f' s; left = omega (arith, here false (Some y) e f) }

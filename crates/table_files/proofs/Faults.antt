@@ -1,16 +1,16 @@
 -- What is wrong with a text is one thing, and nothing is wrong with a table file.
-use Rattle.std.proofs.Common.{◌≡◌, ℕ, ◌+◌, ◌<◌, ◌≤◌, ◌⊎◌, List, [], ◌∷◌, length, get_or, drop, Some, None, Ok, Err, Option, Result, sym, refl, ap, ◌∙◌, subst, inl, inr, arith}
+use Rattle.std.proofs.Common.{◌≡◌, ℕ, ◌+◌, ◌<◌, ◌≤◌, ◌⊎◌, List, [], ◌∷◌, length, get_or, Some, None, Ok, Err, Option, Result, sym, refl, ap, ◌∙◌, subst, inl, inr, arith}
 use Rattle.std.specs.List.{AllByRecursion}
 use Rattle.std.proofs.ByRecursion.{All-get_or, All-weaker}
 use Rattle.std.proofs.lemmas.Bool.{cases_order}
-use Rattle.table_files.specs.declared.Fault.{Fault}
-use Rattle.table_files.specs.declared.Fault.TheVariants.{TooLong, Grammar, Header, FieldCount, Field}
-use Rattle.table_files.specs.declared.Place.{Place}
-use Rattle.table_files.specs.declared.RecordPlaces.{RecordPlaces}
+use Rattle.table_files.specs.declared.fault.Fault.{Fault}
+use Rattle.table_files.specs.declared.fault.Fault.TheVariants.{TooLong, Grammar, Header, FieldCount, Field}
+use Rattle.table_files.specs.declared.fault.Place.{Place}
+use Rattle.table_files.specs.declared.records.RecordPlaces.{RecordPlaces}
 use Rattle.table_files.specs.declared.TableFile.{TableFile}
 use Rattle.table_files.specs.Grammar.{File, Lawful}
 use Rattle.table_files.specs.Places.{Found, RowCount, RowsChecked, Width}
-use Rattle.table_files.specs.Tables.{Reads, Says, Wrong, Rule, Sound, LawfulHeader, LawfulRow, Table, FirstOdd, FirstBroken, Opened, Answer, Answered, place}
+use Rattle.table_files.specs.Tables.{Reads, Says, Wrong, Rule, Sound, LawfulHeader, LawfulRow, Table, FirstOdd, FirstBroken, Opened, Answer, Answered, place, rest_of}
 use Rattle.table_files.proofs.Checks.{one_place, not_both}
 use Rattle.table_files.proofs.Reading.{one_reading}
 use Rattle.table_files.proofs.Walking.{firsts}
@@ -147,8 +147,8 @@ lawful_rows n [] a b = tt
 lawful_rows n (values ∷ rows) a b = ((a.0, b.0), lawful_rows n rows a.1 b.1)
 
 module _ (text : List ℕ) (short : length text ≤ 65536) (lawful : Lawful text) (header : RecordPlaces)
-    (found : (values : List (List ℕ)) (records : Rows) → File text (values ∷ records) → Found text values records header) (w : Option ℕ)
-    (width : (values : List (List ℕ)) (records : Rows) → Found text values records header → Width values w) where
+    (left : List ℕ) (found : (values : List (List ℕ)) (records : Rows) → File text (values ∷ records) → Found values records header left) (w : Option ℕ)
+    (width : (values : List (List ℕ)) (rest : List ℕ) (records : Rows) → Found values records header rest → Width values w) where
   abbrev names : List (List ℕ)
   names = (header_of text lawful).0
 
@@ -158,17 +158,17 @@ module _ (text : List ℕ) (short : length text ≤ 65536) (lawful : Lawful text
   abbrev reads : Reads text names rows
   reads = (short, (header_of text lawful).2)
 
-  abbrev first : Found text names rows header
+  abbrev first : Found names rows header left
   first = found names rows reads.1
 
   pub answer_header : w ≡ None → Answered text (Err (Header (place 1 header.fields)))
   answer_header e =
       answered text (Err (Header _))
-      (names, rows, reads, subst (Width names) e (width names rows first), ap (place 1) first.fields)
+      (names, rows, reads, subst (Width names) e (width names left rows first), ap (place 1) first.fields)
 
-  module _ (n : ℕ) (e : w ≡ Some n) (counted : Result ℕ Place) (count : (rs : Rows) → Says (drop header.next text) rs → RowCount header.fields rs counted) where
+  module _ (n : ℕ) (e : w ≡ Some n) (counted : Result ℕ Place) (count : (rs : Rows) → Says left rs → RowCount header.fields rs counted) where
     abbrev lawful_header : LawfulHeader names × (n + 1 ≡ length names)
-    lawful_header = subst (Width names) e (width names rows first)
+    lawful_header = subst (Width names) e (width names left rows first)
 
     abbrev row_count : RowCount (length names) rows counted
     row_count = subst (λ m. RowCount m rows counted) first.fields (count rows first.rest)
@@ -178,8 +178,8 @@ module _ (text : List ℕ) (short : length text ≤ 65536) (lawful : Lawful text
         let o = subst (RowCount (length names) rows) d row_count in
         answered text (Err (FieldCount p)) (names, rows, reads, lawful_header.0, o.0, o.1, o.2)
 
-    module _ (m : ℕ) (d : counted ≡ Ok m) (checked : Result (Unit {0}) Place)
-        (check : (rs : Rows) → Says (drop header.next text) rs → AllByRecursion (λ values. length values ≤ 5) rs → RowsChecked rs checked) where
+    module _ (m : ℕ) (d : counted ≡ Ok m) (checked : Result ℕ Place)
+        (check : (rs : Rows) → Says left rs → AllByRecursion (λ values. length values ≤ 5) rs → RowsChecked rs checked) where
       abbrev same_count : (m ≡ length rows) × AllByRecursion (λ values. length values ≡ length names) rows
       same_count = subst (RowCount (length names) rows) d row_count
 
@@ -193,9 +193,8 @@ module _ (text : List ℕ) (short : length text ≤ 65536) (lawful : Lawful text
           let o = subst (RowsChecked rows) g sound in
           answered text (Err (Field p)) (names, rows, reads, lawful_header.0, same_count.1, o.0, o.1, o.2, o.3)
 
-      pub answer_file : checked ≡ Ok tt → (file : TableFile) → file.width ≡ n → file.count ≡ m → file.rows.text.now ≡ text → file.rows.at ≡ header.next →
-          Answered text (Ok file)
-      answer_file g file wi co te at =
+      pub answer_file : (k : ℕ) → checked ≡ Ok k → (file : TableFile) → file.width ≡ n → file.count ≡ m → rest_of file.rows.records ≡ left → Answered text (Ok file)
+      answer_file k g file wi co le =
           let all = lawful_rows (length names) rows same_count.1 (subst (RowsChecked rows) g sound) in
           answered text (Ok file) (
             names,
@@ -206,7 +205,7 @@ module _ (text : List ℕ) (short : length text ≤ 65536) (lawful : Lawful text
               width = ap (λ k. k + 1) wi ∙ lawful_header.1;
               count = co ∙ same_count.0;
               ahead = (
-                subst (λ s. Says s rows) (sym (ap (λ k. drop k file.rows.text.now) at ∙ ap (drop header.next) te)) first.rest,
+                subst (λ s. Says s rows) (sym le) first.rest,
                 lawful_header.0.0,
                 lawful_header.0.1,
                 all,

@@ -6,7 +6,8 @@ pub mod Faults
 pub mod Numbering
 pub mod Reached
 pub mod Reading
+pub mod Results
 pub mod Runs
 pub mod Through
 pub mod Walking
-pub mod Writing
+pub mod Texts

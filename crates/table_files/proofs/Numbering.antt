@@ -1,13 +1,13 @@
 -- The numbers of a row's fields, one after the other.
-use Rattle.std.proofs.Common.{◌≡◌, ℕ, ◌+◌, ◌-◌, ◌<◌, ◌≤◌, min, false, eqb, ltb, ◌⊎◌, List, [], ◌∷◌, length, get_or, take, drop, set, Some, None, Ok, Err, Option, sym, refl, ap, ◌∙◌, subst, inl, inr, arith, length-drop, length-take}
+use Rattle.std.proofs.Common.{◌≡◌, ℕ, ◌+◌, ◌-◌, ◌<◌, ◌≤◌, min, false, eqb, ◌⊎◌, List, [], length, get_or, take, drop, set, Some, None, Err, Option, sym, refl, ap, ◌∙◌, subst, inl, inr, arith, length-drop, length-take}
 use Rattle.std.specs.Str.Parse.{digits_value}
-use Rattle.std.proofs.lemmas.List.{drop-drop, get_or-drop, get_or_past, get_or-set_same, get_or-set_other, get_or-take, length-set}
-use Rattle.std.proofs.lemmas.Bool.{cond_both, ltb-true, ltb-false, eqb-false, ne_eqb, cases_lt, cases_eq}
-use Rattle.table_files.specs.declared.FieldPlace.{FieldPlace}
-use Rattle.table_files.specs.declared.RecordPlaces.{RecordPlaces}
-use Rattle.table_files.specs.declared.Row.{Row}
-use Rattle.table_files.specs.Places.{Found, Holds, Within, Number, Numbers, nowhere}
-use Rattle.table_files.specs.Tables.{Numeral, Rule, cell, row_of}
+use Rattle.std.proofs.lemmas.List.{drop-drop, get_or-drop, get_or-set_same, get_or-set_other, get_or-take, length-set}
+use Rattle.std.proofs.lemmas.Bool.{eqb-false, ne_eqb, cases_lt}
+use Rattle.table_files.specs.declared.fields.FieldPlace.{FieldPlace}
+use Rattle.table_files.specs.declared.records.RecordPlaces.{RecordPlaces}
+use Rattle.table_files.specs.Fields.{Holds, nowhere}
+use Rattle.table_files.specs.Places.{Found, Number, Numbers}
+use Rattle.table_files.specs.Tables.{Numeral, Rule}
 
 -- the fields with these values stand at these places
 abbrev pub Standing : List ℕ → List FieldPlace → List (List ℕ) → Type 0
@@ -22,10 +22,6 @@ pub record Counted (text : List ℕ) (places : List FieldPlace) (field : ℕ) (l
   pub so_far : (values : List (List ℕ)) → Standing text places values →
       ((g : ℕ) → g < field → Rule values g × (get_or ns g 0 ≡ digits_value 10 (get_or values g [])))
   pub beyond : (g : ℕ) → field ≤ g → get_or ns g 0 ≡ 0
-
-pub counted_none : (text : List ℕ) (places : List FieldPlace) (ns : List ℕ) → length ns ≡ 5 → ((g : ℕ) → get_or ns g 0 ≡ 0) → Counted text places 0 places ns
-counted_none text places ns r z =
-    record { room = r; inside = omega arith; left_is = refl; so_far = λ values s g l. absurd (omega arith); beyond = λ g l. z g }
 
 module _ (text : List ℕ) (places : List FieldPlace) (field : ℕ) (left : List FieldPlace) (ns : List ℕ) (h : Counted text places field left ns) where
   left_length : length left ≡ length places - field
@@ -92,62 +88,12 @@ module _ (text : List ℕ) (places : List FieldPlace) (field : ℕ) (left : List
         beyond = λ g l. get_or-set_other ns field g n 0 (omega arith) ∙ h.beyond g (omega arith);
       }
 
-  pub counted_all : length left ≡ 0 → (values : List (List ℕ)) → Standing text places values → Numbers values (Ok ns)
-  counted_all none values s = (
-    h.room,
-    λ f l. (h.so_far values s f (omega (arith, left_length, s.0, h.inside))).0,
-    λ k l. (h.so_far values s k (omega (arith, left_length, s.0, h.inside))).1,
-    λ k l. h.beyond k (omega (arith, left_length, s.0, h.inside)),
-  )
-
--- the numbers of a row, by those of its fields
-
-module _ (values : List (List ℕ)) (ns : List ℕ) (h : Numbers values (Ok ns)) (m : ℕ) (is : m + 1 ≡ length values) (few : length values ≤ 5) where
-  cell_is : (k : ℕ) → k < 4 → get_or (set ns m 0) k 0 ≡ cell values k
-  cell_is k lt =
-      cond_both (ltb (k + 1) (length values)) _ _ (λ n. get_or (set ns m 0) k 0 ≡ n)
-      (λ t.
-      let l = ltb-true (k + 1) (length values) t in
-      get_or-set_other ns m k 0 0 (omega arith) ∙ h.2 k (omega arith))
-      (λ f.
-      let l = ltb-false (k + 1) (length values) f in
-      elim (cases_eq k m) [
-        | inl e ↦ ap (λ j. get_or (set ns m 0) j 0) e ∙ get_or-set_same ns m 0 0 (omega (arith, h.0))
-        | inr n ↦ get_or-set_other ns m k 0 0 n ∙ h.3 k (omega arith)
-      ])
-
-  pub row_is : ◌≡◌ {A = Row} (record {
-    cells = get_or (set ns m 0) 0 0 ∷ get_or (set ns m 0) 1 0 ∷ get_or (set ns m 0) 2 0 ∷ get_or (set ns m 0) 3 0 ∷ [];
-    sureness = get_or ns m 0;
-  }) (row_of values)
-  row_is =
-      let a = cell_is 0 (omega arith) in
-      let b = cell_is 1 (omega arith) in
-      let c = cell_is 2 (omega arith) in
-      let d = cell_is 3 (omega arith) in
-      let s : get_or ns m 0 ≡ digits_value 10 (get_or values (length values - 1) []) =
-      h.2 m (omega arith) ∙ ap (λ j. digits_value 10 (get_or values j [])) (omega arith) in
-      rows a b c d s
-    where
-      rows : {a b c d s a' b' c' d' s' : ℕ} → a ≡ a' → b ≡ b' → c ≡ c' → d ≡ d' → s ≡ s' →
-          ◌≡◌ {A = Row} (record { cells = a ∷ b ∷ c ∷ d ∷ []; sureness = s }) (record { cells = a' ∷ b' ∷ c' ∷ d' ∷ []; sureness = s' })
-      rows e f g h i = cc
-
 -- the places of a record's fields, where there are at most five
-pub standing_found : (text : List ℕ) (values : List (List ℕ)) (records : List (List (List ℕ))) (r : RecordPlaces) → Found text values records r →
-    length values ≤ 5 → length r.places ≡ 5 → (n : ℕ) → n ≡ min r.fields 5 → Standing text (take n r.places) values
-standing_found text values records r h few room n is =
+pub standing_found : (values : List (List ℕ)) (records : List (List (List ℕ))) (r : RecordPlaces) (rest : List ℕ) → Found values records r rest →
+    length values ≤ 5 → length r.places ≡ 5 → (n : ℕ) → n ≡ min r.fields 5 → Standing r.text.now (take n r.places) values
+standing_found values records r rest h few room n is =
     let l = length-take n r.places in
     let f = h.fields in (
       omega arith,
-      λ k lk. subst (λ p. Holds text p (get_or values k [])) (sym (get_or-take n r.places k nowhere (omega arith))) (h.stand k lk (omega arith)),
+      λ k lk. subst (λ p. Holds r.text.now p (get_or values k [])) (sym (get_or-take n r.places k nowhere (omega arith))) (h.stand k lk (omega arith)),
     )
-
-pub within_take : (text : List ℕ) (places : List FieldPlace) (n : ℕ) → ((k : ℕ) → Within text (get_or places k nowhere)) →
-    (k : ℕ) → Within text (get_or (take n places) k nowhere)
-within_take text places n h k =
-    elim (cases_lt k n) [
-      | inl l ↦ subst (Within text) (sym (get_or-take n places k nowhere l)) (h k)
-      | inr l ↦
-          subst (Within text) (sym (get_or_past (take n places) k nowhere (omega (arith, length-take n places)))) (omega arith, omega arith)
-    ]

@@ -1,12 +1,12 @@
 -- What a state says of the bytes before it, one lemma for each kind of move; and what follows at the end.
 use Rattle.std.proofs.Common.{◌≡◌, ℕ, ◌+◌, ◌≤◌, true, ◌&&◌, eqb, leb, ◌⊎◌, List, [], ◌∷◌, ◌++◌, length, Some, None, Option, sym, refl, ap, ◌∙◌, subst, inl, inr, append_assoc, append-nil, arith, length-append}
 use Rattle.std.proofs.lemmas.Bool.{false≢true, cond_both, eqb-true, eqb-false, leb-true, and_parts, cases_lt}
-use Rattle.table_files.specs.declared.Class.{Class}
-use Rattle.table_files.specs.declared.Class.TheVariants.{Comma, Quote, Cr, Lf, Text, Other}
-use Rattle.table_files.specs.declared.State.{State}
-use Rattle.table_files.specs.declared.State.TheVariants.{Before, Plain, Quoted, AfterQuote, AfterCr}
-use Rattle.table_files.specs.declared.Reader.{Reader}
-use Rattle.table_files.specs.Steps.{class_of, at, next, done}
+use Rattle.table_files.specs.declared.reader.Class.{Class}
+use Rattle.table_files.specs.declared.reader.Class.TheVariants.{Comma, Quote, Cr, Lf, Text, Other}
+use Rattle.table_files.specs.declared.reader.State.{State}
+use Rattle.table_files.specs.declared.reader.State.TheVariants.{Before, Plain, Quoted, AfterQuote, AfterCr}
+use Rattle.table_files.specs.declared.reader.Reader.{Reader}
+use Rattle.table_files.specs.Steps.{class_of, at, moved, next, done}
 use Rattle.table_files.specs.Grammar.{TextData, COMMA, CR, LF, DQUOTE, NonEscaped, Inside, Field, Record, File, Fields, Records, Begun, StandsIn, Lawful, Continues}
 
 -- what a class says of its byte
@@ -91,8 +91,8 @@ pub record Reached (p : List ℕ) (x : Reader) : Type 0 where
   pub records : Records front n
   pub fields : Fields row m
   pub begun : Part x.state part
-  pub n_is : x.«record» ≡ n + 1
-  pub m_is : x.field ≡ m + 1
+  pub n_is : x.place.«record» ≡ n + 1
+  pub m_is : x.place.field ≡ m + 1
 
 record_glue : {b : List ℕ} {m : ℕ} → Fields b m → (s : List ℕ) (vs : List (List ℕ)) → Record s vs → (ws : List (List ℕ)) × Record (b ++ s) ws
 record_glue Fields.none s vs rc = (vs, rc)
@@ -216,10 +216,10 @@ reached_start =
       m_is = refl;
     }
 
-pub reached_more : (p : List ℕ) (b : ℕ) (x y : Reader) → Reached p x → next x.state (class_of b) x.«record» x.field ≡ Some y →
+pub reached_more : (p : List ℕ) (b : ℕ) (x y : Reader) → Reached p x → moved x (class_of b) ≡ Some y →
     Reached (p ++ (b ∷ [])) y
 reached_more p b x y h e =
-    subst (Good (p ++ (b ∷ []))) e (move p x.state (class_of b) b x.«record» x.field (kind b) h)
+    subst (Good (p ++ (b ∷ []))) e (move p x.state (class_of b) b x.place.«record» x.place.field (kind b) h)
 
 -- At the end: a lawful file, or some bytes that make one.
 
@@ -251,9 +251,9 @@ go_on p AfterCr r f h =
     (LF ∷ [], accept (p ++ (LF ∷ [])) (at Before (r + 1) 1) (move p AfterCr Lf LF r f refl h) refl)
 
 pub continues : (p : List ℕ) (x : Reader) → Reached p x → Continues p
-continues p x h = go_on p x.state x.«record» x.field h
+continues p x h = go_on p x.state x.place.«record» x.place.field h
 
-pub placed : (p : List ℕ) (x : Reader) → Reached p x → StandsIn p x.«record» x.field
+pub placed : (p : List ℕ) (x : Reader) → Reached p x → StandsIn p x.place.«record» x.place.field
 placed p x h =
     rw (h.whole, h.n_is, h.m_is) (StandsIn.place h.records h.fields (part_begun x.state h.part h.begun))
 
@@ -267,7 +267,7 @@ records_few : {a : List ℕ} {n : ℕ} → Records a n → n ≤ length a
 records_few Records.none = omega arith
 records_few (Records.more rs rc) = let h = records_few rs in simp length-append (omega arith)
 
-pub few : (p : List ℕ) (x : Reader) → Reached p x → (x.«record» ≤ length p + 1) × (x.field ≤ length p + 1)
+pub few : (p : List ℕ) (x : Reader) → Reached p x → (x.place.«record» ≤ length p + 1) × (x.place.field ≤ length p + 1)
 few p x h =
     let l : length p ≡ length h.front + (length h.row + length h.part) = ap length h.whole ∙ simp length-append in
     let n = records_few h.records in

@@ -1,6 +1,6 @@
 -- A file has one reading: `read` finds the records of any lawful file.
 use Rattle.std.proofs.Common.{◌≡◌, ℕ, List, [], ◌∷◌, ◌++◌, sym, refl, ap, ◌∙◌, inl, inr, append_assoc, append-nil}
-use Rattle.table_files.specs.declared.Class.TheVariants.{Comma, Quote, Cr, Lf, Text, Other}
+use Rattle.table_files.specs.declared.reader.Class.TheVariants.{Comma, Quote, Cr, Lf, Text, Other}
 use Rattle.table_files.specs.Steps.{class_of}
 use Rattle.table_files.specs.Grammar.{COMMA, CR, LF, DQUOTE, NonEscaped, Inside, Field, Record, File}
 use Rattle.table_files.proofs.Runs.{text_class}

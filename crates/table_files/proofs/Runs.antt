@@ -1,16 +1,16 @@
 -- The table run over bytes, and what it does on what the grammar allows.
 use Rattle.std.proofs.Common.{◌≡◌, ℕ, ◌+◌, ◌≤◌, true, ◌⊎◌, List, [], ◌∷◌, ◌++◌, Some, None, Option, sym, refl, ap, ◌∙◌, inl, inr, append_assoc, append-nil, arith}
 use Rattle.std.proofs.lemmas.Bool.{false≢true, ne_eqb, le-leb}
-use Rattle.table_files.specs.declared.Class.TheVariants.{Comma, Cr, Text}
-use Rattle.table_files.specs.declared.State.{State}
-use Rattle.table_files.specs.declared.State.TheVariants.{Before, Plain, Quoted, AfterQuote, AfterCr}
-use Rattle.table_files.specs.declared.Reader.{Reader}
-use Rattle.table_files.specs.Steps.{class_of, at, next, done}
+use Rattle.table_files.specs.declared.reader.Class.TheVariants.{Comma, Cr, Text}
+use Rattle.table_files.specs.declared.reader.State.{State}
+use Rattle.table_files.specs.declared.reader.State.TheVariants.{Before, Plain, Quoted, AfterQuote, AfterCr}
+use Rattle.table_files.specs.declared.reader.Reader.{Reader}
+use Rattle.table_files.specs.Steps.{class_of, at, moved, next, done}
 use Rattle.table_files.specs.Grammar.{TextData, COMMA, CR, LF, DQUOTE, NonEscaped, Inside, Field, Record, File, Fields, Records, Begun, StandsIn, Continues}
 
 abbrev pub step : Option Reader → ℕ → Option Reader
 step None b = None
-step (Some x) b = next x.state (class_of b) x.«record» x.field
+step (Some x) b = moved x (class_of b)
 
 abbrev pub run : Option Reader → List ℕ → Option Reader
 run o [] = o

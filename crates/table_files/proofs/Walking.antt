@@ -1,11 +1,12 @@
 -- The fields of a record, one after the other.
-use Rattle.std.proofs.Common.{◌≡◌, ℕ, ◌+◌, ◌-◌, ◌<◌, ◌≤◌, ltb, List, [], ◌∷◌, ◌++◌, length, get_or, take, drop, set, replicate, sym, refl, ap, ◌∙◌, subst, inl, inr, append_assoc, append-nil, arith, length-drop}
-use Rattle.std.proofs.lemmas.List.{drop_more, drop-drop, drop_at, take_at, get_or-drop, get_or-set_same, get_or-set_other, get_or-replicate, get_or_past, length-set}
-use Rattle.std.proofs.lemmas.Bool.{cond-true, cond_both, lt-ltb, cases_lt, cases_eq}
-use Rattle.table_files.specs.declared.FieldPlace.{FieldPlace}
-use Rattle.table_files.specs.declared.RecordPlaces.{RecordPlaces}
+use Rattle.std.proofs.Common.{◌≡◌, ℕ, ◌+◌, ◌-◌, ◌<◌, ◌≤◌, min, ltb, List, [], ◌∷◌, ◌++◌, length, get_or, take, drop, sym, refl, ap, ◌∙◌, subst, inl, inr, append_assoc, append-nil, arith, length-drop}
+use Rattle.std.proofs.lemmas.List.{drop_all, drop_more, drop-drop, drop_at, take_at, get_or-drop, get_or-set_same, get_or-set_other, length-set}
+use Rattle.std.proofs.lemmas.Bool.{cond-true, cond_both, lt-ltb, cases_lt}
+use Rattle.table_files.specs.declared.fields.FieldPlace.{FieldPlace}
+use Rattle.table_files.specs.declared.records.RecordPlaces.{RecordPlaces}
 use Rattle.table_files.specs.Grammar.{COMMA, CR, LF, Field, Record, File}
-use Rattle.table_files.specs.Places.{Ends, EndsAt, nowhere, Within, Holds, pushed, Found}
+use Rattle.table_files.specs.Fields.{Ends, EndsAt, nowhere, Holds}
+use Rattle.table_files.specs.Places.{Found, Pushed}
 use Rattle.table_files.specs.Tables.{Says}
 
 -- what stands behind the first field of a file, where its record goes on with ws, and then these records
@@ -119,162 +120,146 @@ module _ {ws : List (List ℕ)} {records : List (List (List ℕ))} where
 
 -- one more place
 
-module _ (x : RecordPlaces) (p : FieldPlace) where
-  pushed_within : (text : List ℕ) → Within text p → ((k : ℕ) → Within text (get_or x.places k nowhere)) →
-      (k : ℕ) → Within text (get_or (pushed x p).places k nowhere)
-  pushed_within text w h k =
-      cond_both (ltb x.fields 5) _ _ (λ l. Within text (get_or l k nowhere))
-      (λ _.
-      elim (cases_eq k x.fields) [
-        | inl e ↦
-            elim (cases_lt k (length x.places)) [
-              | inl l ↦ subst (Within text) (sym (ap (λ n. get_or (set x.places n p) k nowhere) (sym e) ∙ get_or-set_same x.places k p nowhere l)) w
-              | inr l ↦
-                  let g : length (set x.places x.fields p) ≤ k = omega (arith, length-set x.places x.fields p) in
-                  subst (Within text) (sym (get_or_past (set x.places x.fields p) k nowhere g)) (omega arith, omega arith)
-            ]
-        | inr n ↦ subst (Within text) (sym (get_or-set_other x.places x.fields k p nowhere n)) (h k)
-      ])
-      (λ _. h k)
-
-  pushed_here : x.fields < 5 → length x.places ≡ 5 → get_or (pushed x p).places x.fields nowhere ≡ p
+module _ {x y : RecordPlaces} {p : FieldPlace} (h : Pushed x y p) where
+  pushed_here : x.fields < 5 → length x.places ≡ 5 → get_or y.places x.fields nowhere ≡ p
   pushed_here l r =
-      ap (λ t. get_or t x.fields nowhere) (cond-true (ltb x.fields 5) _ _ (lt-ltb x.fields 5 l))
+      ap (λ t. get_or t x.fields nowhere) (h.places ∙ cond-true (ltb x.fields 5) _ _ (lt-ltb x.fields 5 l))
       ∙ get_or-set_same x.places x.fields p nowhere (omega arith)
 
-  pushed_other : (k : ℕ) → k < x.fields → get_or (pushed x p).places k nowhere ≡ get_or x.places k nowhere
+  pushed_other : (k : ℕ) → k < x.fields → get_or y.places k nowhere ≡ get_or x.places k nowhere
   pushed_other k l =
-      cond_both (ltb x.fields 5) _ _ (λ t. get_or t k nowhere ≡ get_or x.places k nowhere)
-      (λ _. get_or-set_other x.places x.fields k p nowhere (omega arith)) (λ _. refl)
+      rw h.places
+      (cond_both (ltb x.fields 5) _ _ (λ t. get_or t k nowhere ≡ get_or x.places k nowhere)
+      (λ _. get_or-set_other x.places x.fields k p nowhere (omega arith)) (λ _. refl))
 
-  pushed_room : length x.places ≡ 5 → length (pushed x p).places ≡ 5
-  pushed_room r = cond_both (ltb x.fields 5) _ _ (λ t. length t ≡ 5) (λ _. length-set x.places x.fields p ∙ r) (λ _. r)
+  pushed_room : length x.places ≡ 5 → length y.places ≡ 5
+  pushed_room r = rw h.places (cond_both (ltb x.fields 5) _ _ (λ t. length t ≡ 5) (λ _. length-set x.places x.fields p ∙ r) (λ _. r))
 
--- the first fields of the record with these values are found, and it goes on with the others
-pub record Partly (text : List ℕ) (values : List (List ℕ)) (records : List (List (List ℕ))) (x : RecordPlaces) : Type 0 where
-  pub left : File (drop x.next text) (drop x.fields values ∷ records)
-  pub stand : (k : ℕ) → k < x.fields → k < 5 → Holds text (get_or x.places k nowhere) (get_or values k [])
+-- the first fields of a record with these values are found, and this stands behind them
+pub record Partly (values : List (List ℕ)) (records : List (List (List ℕ))) (x : RecordPlaces) (rest : List ℕ) : Type 0 where
+  pub count : x.fields ≤ length values
+  pub behind : Behind (drop x.fields values) records rest
+  pub stand : (k : ℕ) → k < x.fields → k < 5 → Holds x.text.now (get_or x.places k nowhere) (get_or values k [])
 
--- the walk through the record that starts at a byte
-pub record Going (text : List ℕ) (start : ℕ) (x : RecordPlaces) : Type 0 where
-  pub few : x.fields + start ≤ x.next
-  pub inside : x.next ≤ length text
+-- the walk through the record that starts at a byte, up to the end of a field
+pub record Going (text : List ℕ) (start at : ℕ) (x : RecordPlaces) : Type 0 where
+  pub few : x.fields ≤ at + 1
+  pub moves : start ≤ at
+  pub text_is : x.text.now ≡ text
   pub room : length x.places ≡ 5
-  pub within : (k : ℕ) → Within text (get_or x.places k nowhere)
-  pub partly : (values : List (List ℕ)) (records : List (List (List ℕ))) → File (drop start text) (values ∷ records) → Partly text values records x
+  pub partly : (values : List (List ℕ)) (records : List (List (List ℕ))) → File (drop start text) (values ∷ records) → Partly values records x (drop at text)
 
-pub going_none : (text : List ℕ) (start : ℕ) → start ≤ length text → Going text start (record { places = replicate 5 nowhere; fields = 0; next = start })
-going_none text start h =
+-- the first field of a file
+
+first_tail : {values others : List (List ℕ)} {value : List ℕ} → values ≡ value ∷ others → drop 1 values ≡ others
+first_tail e = ap (drop 1) e
+
+module _ (text : List ℕ) (p : FieldPlace) (ends : EndsAt (drop p.start text) (p.end - p.start)) (after : p.start ≤ p.end) (values : List (List ℕ))
+    (records : List (List (List ℕ))) (fl : File (drop p.start text) (values ∷ records)) where
+  abbrev one : First (drop p.start text) values records
+  one = firsts fl
+
+  end_is : p.end - p.start ≡ length one.raw
+  end_is = ends one.raw one.value one.rest one.whole one.field (behind_ends one.behind)
+
+  first_rest : drop p.end text ≡ one.rest
+  first_rest =
+      ap (λ n. drop n text) (omega (arith, after))
+      ∙ (sym (drop-drop (p.end - p.start) p.start text)
+      ∙ (ap (drop (p.end - p.start)) one.whole ∙ drop_at one.raw one.rest (p.end - p.start) (sym end_is)))
+
+  pub first_behind : Behind one.others records (drop p.end text)
+  first_behind = rw first_rest one.behind
+
+  pub first_holds : Holds text p one.value
+  first_holds = subst (λ s. Field s one.value) (sym (ap (take (p.end - p.start)) one.whole ∙ take_at one.raw one.rest (p.end - p.start) (sym end_is))) one.field
+
+pub going_first : (text : List ℕ) (p : FieldPlace) (x : RecordPlaces) → EndsAt (drop p.start text) (p.end - p.start) → p.start ≤ p.end → x.text.now ≡ text →
+    x.places ≡ p ∷ nowhere ∷ nowhere ∷ nowhere ∷ nowhere ∷ [] → x.fields ≡ 1 → Going text p.start p.end x
+going_first text p x ends after t e n =
     record {
       few = omega arith;
-      inside = h;
-      room = refl;
-      within = λ k. always (get_or (replicate 5 nowhere) k nowhere) (none k);
-      partly = λ values records fl. record { left = fl; stand = λ k l. absurd (omega arith) };
+      moves = after;
+      text_is = t;
+      room = ap length e;
+      partly = λ values records fl.
+          let f = one text p ends after values records fl in
+          record {
+            count = omega (arith, ap length f.values_are);
+            behind = rw (n, first_tail f.values_are) (first_behind text p ends after values records fl);
+            stand = λ k l five. let k_is : k ≡ 0 = omega arith in rw (k_is, e, t, f.values_are) (first_holds text p ends after values records fl);
+          };
     }
-  where
-    none : (k : ℕ) → get_or (replicate 5 nowhere) k nowhere ≡ nowhere
-    none k =
-        elim (cases_lt k 5) [
-          | inl l ↦ get_or-replicate 5 k nowhere nowhere l
-          | inr l ↦ get_or_past (replicate 5 nowhere) k nowhere l
-        ]
 
-    always : (p : FieldPlace) → p ≡ nowhere → Within text p
-    always p e = subst (Within text) (sym e) (omega arith, omega arith)
-
-module _ (text : List ℕ) (start : ℕ) (x : RecordPlaces) (h : Going text start x) (e : ℕ) (after : x.next ≤ e) (inside : e ≤ length text)
-    (ends : EndsAt text x.next e) where
-  abbrev here : FieldPlace
-  here = record { start = x.next; end = e }
-
-  abbrev then : RecordPlaces
-  then = pushed x here
-
-  pub then_within : (k : ℕ) → Within text (get_or then.places k nowhere)
-  then_within = pushed_within x here text (after, inside) h.within
-
+module _ (text : List ℕ) (start at : ℕ) (x y : RecordPlaces) (p : FieldPlace) (h : Going text start at x) (here : p.start ≡ at + 1) (after : p.start ≤ p.end)
+    (ends : EndsAt (drop p.start text) (p.end - p.start)) (up : Pushed x y p) (comma : drop at text ≡ COMMA ∷ drop (at + 1) text) where
   module _ (values : List (List ℕ)) (records : List (List (List ℕ))) (fl : File (drop start text) (values ∷ records)) where
-    abbrev one : First (drop x.next text) (drop x.fields values) records
-    one = firsts (h.partly values records fl).left
+    abbrev file : File (drop p.start text) (drop x.fields values ∷ records)
+    file = rw here (behind_comma (h.partly values records fl).behind (drop (at + 1) text) comma)
 
-    e_is : e ≡ x.next + length one.raw
-    e_is = ends one.raw one.value one.rest one.whole one.field (behind_ends one.behind)
-
-    rest_is : drop e text ≡ one.rest
-    rest_is =
-        ap (λ n. drop n text) e_is
-        ∙ (sym (drop-drop (length one.raw) x.next text)
-        ∙ (ap (drop (length one.raw)) one.whole ∙ drop_at one.raw one.rest (length one.raw) refl))
-
-    holds : Holds text here one.value
-    holds =
-        let n : length one.raw ≡ e - x.next = omega (arith, e_is) in
-        subst (λ s. Field s one.value) (sym (ap (take (e - x.next)) one.whole ∙ take_at one.raw one.rest (e - x.next) n)) one.field
+    abbrev field : First (drop p.start text) (drop x.fields values) records
+    field = one text p ends after (drop x.fields values) records file
 
     more_values : x.fields < length values
-    more_values = omega (arith, length-drop x.fields values, ap length one.values_are)
+    more_values = omega (arith, length-drop x.fields values, ap length field.values_are)
 
-    both : get_or values x.fields [] ∷ drop (x.fields + 1) values ≡ one.value ∷ one.others
-    both = sym (drop_more values x.fields [] more_values) ∙ one.values_are
+    both : get_or values x.fields [] ∷ drop (x.fields + 1) values ≡ field.value ∷ field.others
+    both = sym (drop_more values x.fields [] more_values) ∙ field.values_are
 
-    value_is : get_or values x.fields [] ≡ one.value
+    value_is : get_or values x.fields [] ≡ field.value
     value_is = let b = both in cc
 
-    others_are : drop (x.fields + 1) values ≡ one.others
+    others_are : drop (x.fields + 1) values ≡ field.others
     others_are = let b = both in cc
 
-    then_stand : (k : ℕ) → k < x.fields + 1 → k < 5 → Holds text (get_or then.places k nowhere) (get_or values k [])
-    then_stand k l five =
-        elim (cases_lt k x.fields) [
-          | inl m ↦ subst (λ p. Holds text p (get_or values k [])) (sym (pushed_other x here k m)) ((h.partly values records fl).stand k m five)
+    more_stand : (k : ℕ) → k < y.fields → k < 5 → Holds y.text.now (get_or y.places k nowhere) (get_or values k [])
+    more_stand k l five =
+        rw up.text
+        (elim (cases_lt k x.fields) [
+          | inl m ↦ rw (pushed_other up k m) ((h.partly values records fl).stand k m five)
           | inr m ↦
-              let n : k ≡ x.fields = omega arith in
-              subst (λ j. Holds text (get_or then.places j nowhere) (get_or values j [])) (sym n)
-              (subst (λ p. Holds text p (get_or values x.fields [])) (sym (pushed_here x here (omega arith) h.room))
-              (subst (Holds text here) (sym value_is) holds))
-        ]
+              let n : k ≡ x.fields = omega (arith, up.fields) in
+              rw (n, pushed_here up (omega arith) h.room, value_is, h.text_is) (first_holds text p ends after (drop x.fields values) records file)
+        ])
 
-    partly_more : e < length text → get_or text e 0 ≡ COMMA → Partly text values records (record { places = then.places; fields = x.fields + 1; next = e + 1 })
-    partly_more lt c =
-        let d : one.rest ≡ COMMA ∷ drop (e + 1) text = sym rest_is ∙ (drop_more text e 0 lt ∙ ap (λ b. b ∷ drop (e + 1) text) c) in
-        record {
-          left = subst (λ vs. File (drop (e + 1) text) (vs ∷ records)) (sym others_are) (behind_comma one.behind (drop (e + 1) text) d);
-          stand = then_stand;
-        }
-
-    found_all : (e < length text → get_or text e 0 ≡ COMMA → ⊥) → (n : ℕ) → drop n text ≡ drop (e + 2) text →
-        Found text values records (record { places = then.places; fields = x.fields + 1; next = n })
-    found_all free n is =
-        let none : (t : List ℕ) → one.rest ≡ COMMA ∷ t → ⊥ = λ t c.
-        let d = rest_is ∙ c in
-        let l = length-drop e text in
-        let k = ap length d in
-        let g : get_or text e 0 ≡ COMMA = sym (getD_drop' e) ∙ ap (λ s. get_or s 0 0) d in
-        free (omega arith) g in
-        let b = behind_line one.behind none in
-        let l = length-drop (x.fields + 1) values in
-        let m = ap length (others_are ∙ b.0) in
-        record {
-          fields = omega (arith, more_values);
-          stand = λ k lk five. then_stand k (omega (arith, more_values)) five;
-          rest = subst (λ s. Says s records) (sym (is ∙ (sym (drop-drop 2 e text) ∙ ap (drop 2) rest_is))) b.1;
-        }
-      where
-        getD_drop' : (n : ℕ) → get_or (drop n text) 0 0 ≡ get_or text n 0
-        getD_drop' n = get_or-drop n text 0 0 ∙ ap (λ m. get_or text m 0) (omega arith)
-
-  pub going_more : e < length text → get_or text e 0 ≡ COMMA → Going text start (record { places = then.places; fields = x.fields + 1; next = e + 1 })
-  going_more lt c =
+  pub going_more : Going text start p.end y
+  going_more =
       record {
-        few = omega (arith, h.few);
-        inside = omega arith;
-        room = pushed_room x here h.room;
-        within = then_within;
-        partly = λ values records fl. partly_more values records fl lt c;
+        few = omega (arith, h.few, up.fields);
+        moves = omega (arith, h.moves);
+        text_is = ap (λ t. t.now) up.text ∙ h.text_is;
+        room = pushed_room up h.room;
+        partly = λ values records fl.
+            record {
+              count = omega (arith, more_values values records fl, up.fields);
+              behind = rw (up.fields, others_are values records fl) (first_behind text p ends after (drop x.fields values) records (file values records fl));
+              stand = more_stand values records fl;
+            };
       }
 
-  pub found_then : (e < length text → get_or text e 0 ≡ COMMA → ⊥) → (n : ℕ) → drop n text ≡ drop (e + 2) text →
-      (values : List (List ℕ)) (records : List (List (List ℕ))) → File (drop start text) (values ∷ records) →
-      Found text values records (record { places = then.places; fields = x.fields + 1; next = n })
-  found_then free n is values records fl = found_all values records fl free n is
+pub comma_here : (text : List ℕ) (at : ℕ) (t : List ℕ) → drop at text ≡ COMMA ∷ t → (at < length text) × (get_or text at 0 ≡ COMMA)
+comma_here text at t e =
+    let l = length-drop at text in
+    let k = ap length e in
+    (omega arith, sym (get_or-drop at text 0 0 ∙ ap (λ m. get_or text m 0) (omega arith)) ∙ ap (λ s. get_or s 0 0) e)
+
+-- no more is dropped than there is
+pub drop_least : (text : List ℕ) (n m : ℕ) → m ≡ min n (length text) → drop m text ≡ drop n text
+drop_least text n m e =
+    elim (cases_lt n (length text)) [
+      | inl l ↦ ap (λ k. drop k text) (omega (arith, e))
+      | inr l ↦ drop_all m text (omega (arith, e)) ∙ sym (drop_all n text l)
+    ]
+
+-- the fields of the record, all found where no comma stands behind them
+pub going_found : (text : List ℕ) (start at : ℕ) (x : RecordPlaces) → Going text start at x → ((t : List ℕ) → drop at text ≡ COMMA ∷ t → ⊥) → (n : ℕ) →
+    drop n text ≡ drop (at + 2) text → (values : List (List ℕ)) (records : List (List (List ℕ))) → File (drop start text) (values ∷ records) →
+    Found values records x (drop n text)
+going_found text start at x h none n is values records fl =
+    let p = h.partly values records fl in
+    let b = behind_line p.behind none in
+    record {
+      fields = omega (arith, p.count, length-drop x.fields values, ap length b.0);
+      stand = λ k l five. p.stand k (omega (arith, p.count, length-drop x.fields values, ap length b.0)) five;
+      rest = rw (is, ← (drop-drop 2 at text)) b.1;
+    }

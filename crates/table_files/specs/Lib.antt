@@ -1,4 +1,6 @@
+pub mod Fields
 pub mod Grammar
+pub mod Messages
 pub mod Places
 pub mod Steps
 pub mod Tables

@@ -1,52 +1,35 @@
 -- Where the fields of a record stand in a text: for the contracts of the walk's own functions.
-use Rattle.std.specs.Prelude.{◌≡◌, ℕ, ◌+◌, ◌-◌, ◌<◌, ◌≤◌, Bool, false, cond, ◌⊎◌, List, [], ◌∷◌, ◌++◌, length, take, drop, Some, None, Ok, Err, Option, Result, nat_lt, slice_index, slice_index_or, slice_set}
+use Rattle.std.specs.Prelude.{◌≡◌, ℕ, ◌+◌, ◌<◌, ◌≤◌, Bool, false, cond, ◌⊎◌, List, [], ◌∷◌, length, Some, None, Ok, Err, Option, Result, nat_lt, slice_index, slice_index_or, slice_set}
 use Rattle.std.specs.Str.Parse.{digits_value}
 use Rattle.std.specs.List.{AllByRecursion}
-use Rattle.table_files.specs.declared.FieldPlace.{FieldPlace}
-use Rattle.table_files.specs.declared.Place.{Place}
-use Rattle.table_files.specs.declared.RecordPlaces.{RecordPlaces}
-use Rattle.table_files.specs.declared.Row.{Row}
-use Rattle.table_files.specs.Grammar.{Bytes, Values, COMMA, CR, Field, Inside, NonEscaped}
-use Rattle.table_files.specs.Tables.{LawfulHeader, Numeral, Rule, Says, Sound, FirstOdd, FirstBroken, place, row_of}
-
--- what may stand behind a field: nothing, a comma, or a CR
-pub data Ends : Bytes → Type 0 where
-  all : Ends []
-  comma : {rest : Bytes} → Ends (COMMA ∷ rest)
-  line : {rest : Bytes} → Ends (CR ∷ rest)
-
--- the field that starts at a byte ends at byte e
-abbrev pub EndsAt : Bytes → ℕ → ℕ → Type 0
-EndsAt text start e =
-    (raw value rest : Bytes) → drop start text ≡ raw ++ rest → Field raw value → Ends rest → e ≡ start + length raw
-
--- no bytes, at the start
-abbrev pub nowhere : FieldPlace
-nowhere = record { start = 0; end = 0 }
-
--- the place lies within the text
-abbrev pub Within : Bytes → FieldPlace → Type 0
-Within text p = (p.start ≤ p.end) × (p.end ≤ length text)
-
--- the bytes at the place are a field of this value
-abbrev pub Holds : Bytes → FieldPlace → Bytes → Type 0
-Holds text p value = Field (take (p.end - p.start) (drop p.start text)) value
+use Rattle.table_files.specs.declared.fields.FieldPlace.{FieldPlace}
+use Rattle.table_files.specs.declared.fault.Place.{Place}
+use Rattle.table_files.specs.declared.records.RecordPlaces.{RecordPlaces}
+use Rattle.table_files.specs.declared.records.Records.{Records}
+use Rattle.table_files.specs.declared.rows.Row.{Row}
+use Rattle.table_files.specs.Fields.{Holds, nowhere}
+use Rattle.table_files.specs.Grammar.{Bytes, File, Values}
+use Rattle.table_files.specs.Tables.{LawfulHeader, Numeral, Rule, Says, Sound, FirstOdd, FirstBroken, place, rest_of, row_of}
 
 -- one more field: its place is kept where there is room, and it is counted
-abbrev pub pushed : RecordPlaces → FieldPlace → RecordPlaces
-pushed r p =
-    record { places = cond (nat_lt r.fields 5) (slice_set r.places r.fields p) r.places; fields = r.fields + 1; next = r.next }
+pub record Pushed (before after : RecordPlaces) (p : FieldPlace) : Type 0 where
+  pub text : after.text ≡ before.text
+  pub places : after.places ≡ cond (nat_lt before.fields 5) (slice_set before.places before.fields p) before.places
+  pub fields : after.fields ≡ before.fields + 1
 
--- The fields of a record with these values, before these records: their number, where the first five stand, and the byte
--- from which on the text says the other records.
-pub record Found (text : Bytes) (values : Values) (records : List Values) (r : RecordPlaces) : Type 0 where
+-- The fields of a record with these values, before these records: their number, where the first five stand, and that the
+-- text behind them says the other records.
+pub record Found (values : Values) (records : List Values) (r : RecordPlaces) (after : Bytes) : Type 0 where
   pub fields : r.fields ≡ length values
-  pub stand : (k : ℕ) → k < length values → k < 5 → Holds text (slice_index_or r.places k nowhere) (slice_index_or values k [])
-  pub rest : Says (drop r.next text) records
+  pub stand : (k : ℕ) → k < length values → k < 5 → Holds r.text.now (slice_index_or r.places k nowhere) (slice_index_or values k [])
+  pub rest : Says after records
 
--- what stands in a field without the quotes around it
-abbrev pub Content : Bytes → Bytes → Type 0
-Content raw value = NonEscaped raw value ⊎ Inside raw value
+-- a step of a walk over records: none at the end of the text, or the record there
+abbrev pub RecordStep : Records → Option RecordPlaces → Records → Type 0
+RecordStep from None to = rest_of from ≡ []
+RecordStep from (Some r) to =
+    (0 < length (rest_of from))
+    × ((values : Values) (records : List Values) → File (rest_of from) (values ∷ records) → Found values records r (rest_of to))
 
 -- the number of a field that keeps its rule, or none
 abbrev pub Number : Bool → Bytes → Option ℕ → Type 0
@@ -69,10 +52,31 @@ abbrev pub RowRead : Values → Result Row ℕ → Type 0
 RowRead values (Ok row) = Sound values × (row ≡ row_of values)
 RowRead values (Err f) = (g : ℕ) × (f ≡ g + 1) × FirstWrong values g
 
+-- whether the fields of a row keep their rules; or the first, from 1, that does not
+abbrev pub RowTested : RecordPlaces → Result (Unit {0}) ℕ → Type 0
+RowTested r (Ok u) = (values : Values) (rest : Bytes) (records : List Values) → Found values records r rest → length values ≤ 5 → Sound values
+RowTested r (Err f) =
+    (values : Values) (rest : Bytes) (records : List Values) → Found values records r rest → length values ≤ 5 → (g : ℕ) × (f ≡ g + 1) × FirstWrong values g
+
 -- the width of a table by its header; none where the header is not lawful
 abbrev pub Width : Values → Option ℕ → Type 0
 Width names (Some w) = LawfulHeader names × (w + 1 ≡ length names)
 Width names None = LawfulHeader names → ⊥
+
+-- a record of these values stood before the test, which it passed
+abbrev pub Passes : (RecordPlaces → Result (Unit {0}) ℕ → Type 0) → Values → Type 0
+Passes Post values = (records : List Values) × (r : RecordPlaces) × (rest : Bytes) × Found values records r rest × Post r (Ok tt)
+
+-- the number of rows, which all passed a test; or the place of the first that did not, with the field that the test answered
+abbrev pub Judgement : (RecordPlaces → Result (Unit {0}) ℕ → Type 0) → List Values → Result ℕ Place → Type 0
+Judgement Post rows (Ok count) = (count ≡ length rows) × ((k : ℕ) → k < length rows → Passes Post (slice_index_or rows k []))
+Judgement Post rows (Err p) =
+    (k : ℕ) × (k < length rows) × ((j : ℕ) → j < k → Passes Post (slice_index_or rows j []))
+    × (records : List Values) × (r : RecordPlaces) × (rest : Bytes) × Found (slice_index_or rows k []) records r rest × (f : ℕ) × Post r (Err f)
+    × (p ≡ place (k + 2) f)
+
+pub record Judged (Post : RecordPlaces → Result (Unit {0}) ℕ → Type 0) (rows : List Values) (result : Result ℕ Place) : Type 0 where
+  pub answer : Judgement Post rows result
 
 -- the number of rows, each of n fields; or the place of the first of another number
 abbrev pub RowCount : ℕ → List Values → Result ℕ Place → Type 0
@@ -80,6 +84,6 @@ RowCount n rows (Ok count) = (count ≡ length rows) × AllByRecursion (λ value
 RowCount n rows (Err p) = (r : ℕ) × FirstOdd n rows r × (p ≡ place (r + 2) (length (slice_index_or rows r [])))
 
 -- rows whose fields keep their rules; or the place of the first field that breaks its rule
-abbrev pub RowsChecked : List Values → Result (Unit {0}) Place → Type 0
-RowsChecked rows (Ok u) = AllByRecursion Sound rows
+abbrev pub RowsChecked : List Values → Result ℕ Place → Type 0
+RowsChecked rows (Ok count) = AllByRecursion Sound rows
 RowsChecked rows (Err p) = (r : ℕ) × (f : ℕ) × FirstBroken rows r f × (p ≡ place (r + 2) (f + 1))

@@ -1,10 +1,10 @@
 -- What the reader does at a byte, as a table: for inner contracts alone. specs/Grammar says what a lawful text is.
 use Rattle.std.specs.Prelude.{ℕ, ◌+◌, Bool, true, false, cond, ◌&&◌, Some, None, Option, ◌==◌, nat_le}
-use Rattle.table_files.specs.declared.Class.{Class}
-use Rattle.table_files.specs.declared.Class.TheVariants.{Comma, Quote, Cr, Lf, Text, Other}
-use Rattle.table_files.specs.declared.State.{State}
-use Rattle.table_files.specs.declared.State.TheVariants.{Before, Plain, Quoted, AfterQuote, AfterCr}
-use Rattle.table_files.specs.declared.Reader.{Reader}
+use Rattle.table_files.specs.declared.reader.Class.{Class}
+use Rattle.table_files.specs.declared.reader.Class.TheVariants.{Comma, Quote, Cr, Lf, Text, Other}
+use Rattle.table_files.specs.declared.reader.State.{State}
+use Rattle.table_files.specs.declared.reader.State.TheVariants.{Before, Plain, Quoted, AfterQuote, AfterCr}
+use Rattle.table_files.specs.declared.reader.Reader.{Reader}
 
 -- the class of a byte
 abbrev pub class_of : ℕ → Class
@@ -14,7 +14,7 @@ class_of b =
 
 -- a reader in a state, in field f of record r
 abbrev pub at : State → ℕ → ℕ → Reader
-at q r f = record { state = q; «record» = r; field = f }
+at q r f = record { state = q; place = record { «record» = r; field = f } }
 
 -- where the reader goes at a byte of a class; none where the grammar has nothing
 abbrev pub next : State → Class → ℕ → ℕ → Option Reader
@@ -48,6 +48,10 @@ next AfterCr Cr r f = None
 next AfterCr Lf r f = Some (at Before (r + 1) 1)
 next AfterCr Text r f = None
 next AfterCr Other r f = None
+
+-- the same from where a reader is
+abbrev pub moved : Reader → Class → Option Reader
+moved x class = next x.state class x.place.«record» x.place.field
 
 -- where a field may end
 abbrev pub done : State → Bool

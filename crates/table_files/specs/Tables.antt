@@ -2,11 +2,12 @@
 use Rattle.std.specs.Prelude.{◌≡◌, ℕ, ◌+◌, ◌-◌, ◌<◌, ◌≤◌, cond, ◌⊎◌, List, [], ◌∷◌, length, drop, Some, None, Ok, Err, Option, Result, nat_lt, slice_index_or}
 use Rattle.std.specs.Str.Parse.{AllDigits, digits_value}
 use Rattle.std.specs.List.{AllByRecursion}
-use Rattle.table_files.specs.declared.Fault.{Fault}
-use Rattle.table_files.specs.declared.Fault.TheVariants.{TooLong, Grammar, Header, FieldCount, Field}
-use Rattle.table_files.specs.declared.Place.{Place}
-use Rattle.table_files.specs.declared.Row.{Row}
-use Rattle.table_files.specs.declared.Rows.{Rows}
+use Rattle.table_files.specs.declared.fault.Fault.{Fault}
+use Rattle.table_files.specs.declared.fault.Fault.TheVariants.{TooLong, Grammar, Header, FieldCount, Field}
+use Rattle.table_files.specs.declared.fault.Place.{Place}
+use Rattle.table_files.specs.declared.rows.Row.{Row}
+use Rattle.table_files.specs.declared.records.Records.{Records}
+use Rattle.table_files.specs.declared.rows.Rows.{Rows}
 use Rattle.table_files.specs.declared.TableFile.{TableFile}
 use Rattle.table_files.specs.Grammar.{Bytes, Values, File, Breaks}
 
@@ -93,13 +94,20 @@ abbrev pub Says : Bytes → List Values → Type 0
 Says [] records = records ≡ []
 Says (b ∷ rest) records = File (b ∷ rest) records
 
+-- the bytes that a walk over records has before it, and how many there are
+abbrev pub rest_of : Records → Bytes
+rest_of walk = drop walk.at walk.text.now
+
+abbrev pub left_of : Records → ℕ
+left_of walk = length walk.text.now - walk.at
+
 -- the rows that a walk has before it, all of n fields
 abbrev pub Ahead : ℕ → Rows → List Values → Type 0
-Ahead n walk rows = Says (drop walk.at walk.text.now) rows × (2 ≤ n) × (n ≤ 5) × AllByRecursion (LawfulRow n) rows
+Ahead n walk rows = Says (rest_of walk.records) rows × (2 ≤ n) × (n ≤ 5) × AllByRecursion (LawfulRow n) rows
 
 -- how many bytes a walk has before it
 abbrev pub bytes_left : Rows → ℕ
-bytes_left walk = length walk.text.now - walk.at
+bytes_left walk = left_of walk.records
 
 -- what a step of a walk answers, and what it then has before it
 abbrev pub Walked : ℕ → List Values → Option Row → Rows → Type 0

@@ -1,7 +1,7 @@
 -- What is written of a table, and that it reads back.
 use Rattle.std.specs.Prelude.{◌≡◌, ℕ, zero, suc, ◌+◌, ◌*◌, ◌^◌, ◌<◌, ◌≤◌, List, [], ◌∷◌, ◌++◌, map, length, take, decimal, slice_index}
 use Rattle.std.specs.List.{flat_map, AllByRecursion}
-use Rattle.table_files.specs.declared.Row.{Row}
+use Rattle.table_files.specs.declared.rows.Row.{Row}
 use Rattle.table_files.specs.Grammar.{Bytes, Values, COMMA, CR, LF}
 use Rattle.table_files.specs.Tables.{Reads, Table, row_of, sure}
 

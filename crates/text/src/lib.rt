@@ -1,46 +1,79 @@
-//! Text written into lent bytes, from a place on.
+//! Text written into lent bytes, one part after the other.
 #![tactic(auto)]
 
 ghost use Rattle.std.specs.Prelude.{◌≡◌, ◌+◌, ◌≤◌, length, decimal};
-ghost use Rattle.text.specs.Over.{over, numbers_text};
 
-/// Writes some bytes at a place, and answers the place after them. The caller has proved that they fit.
-pub fn put(bytes: &[u8], out: &mut [u8], at: usize) -> usize
-    requires { at + length bytes.now ≤ length out.old }
-    ensures ends { result ≡ at + length bytes.now }
-    ensures wrote { out.new ≡ over out.old at bytes.now }
-{
-    let end = at + bytes.len();
-    out[at..end].copy_from_slice(bytes);
-    end
+// No `fmt::Write`: a formatter may fail, and here each caller has shown that there is room.
+/// Writes texts into lent bytes, one after the other.
+#[derive(Drop)]
+pub struct Writer<'a> {
+    out: &'a mut [u8],
+    at: usize,
 }
 
-/// Writes a number in decimal digits, and answers the place after them. The caller has proved that they fit.
-pub fn put_number(number: usize, out: &mut [u8], at: usize) -> usize
-    requires { at + length (decimal number) ≤ length out.old }
-    ensures ends { result ≡ at + length (decimal number) }
-    ensures wrote { out.new ≡ over out.old at (decimal number) }
-{
-    if number < 10 {
-        return put(&[b'0' + number as u8], out, at);
+impl<'a> Writer<'a> {
+    ghost use Rattle.text.specs.Over.{numbers_text};
+    ghost use Rattle.text.specs.Writers.{Wrote, room_of};
+
+    /// A writer that begins at the first byte.
+    pub fn new(out: &'a mut [u8]) -> Writer<'a>
+        ensures memory { result.out.ghost_name ≡ out.entry.ghost_name }
+        ensures bytes { result.out.now ≡ out.old }
+        ensures place { result.at ≡ 0 }
+    {
+        Writer::starting_at(out, 0)
     }
-    let last = put_number(number / 10, out, at);
-    put(&[b'0' + (number % 10) as u8], out, last)
-}
 
-/// Writes numbers in decimal digits with a byte between two of them, and answers the place after them. The caller has proved that they fit.
-pub fn put_numbers(numbers: &[usize], gap: u8, out: &mut [u8], at: usize) -> usize
-    requires { at + length (numbers_text gap numbers.now) ≤ length out.old }
-    ensures ends { result ≡ at + length (numbers_text gap numbers.now) }
-    ensures wrote { out.new ≡ over out.old at (numbers_text gap numbers.now) }
-{
-    match numbers {
-        [] => at,
-        [only] => put_number(*only, out, at),
-        [first, rest @ ..] => {
-            let end = put_number(*first, out, at);
-            let next = put(&[gap], out, end);
-            put_numbers(rest, gap, out, next)
+    /// A writer that begins at a place.
+    pub fn starting_at(out: &'a mut [u8], place: usize) -> Writer<'a>
+        ensures memory { result.out.ghost_name ≡ out.entry.ghost_name }
+        ensures bytes { result.out.now ≡ out.old }
+        ensures place { result.at ≡ place }
+    {
+        Writer { out, at: place }
+    }
+
+    /// The number of bytes up to the writer's place.
+    pub fn place(&self) -> usize
+        ensures { result ≡ self.now.at }
+    {
+        self.at
+    }
+
+    /// Writes some bytes. The caller has shown that they fit.
+    pub fn put(&mut self, bytes: &[u8])
+        requires { self.old.at + length bytes.now ≤ room_of self.old }
+        ensures { Wrote self.old self.new bytes.now }
+    {
+        let Writer { out, at } = self;
+        let end = *at + bytes.len();
+        out[*at..end].copy_from_slice(bytes);
+        *at = end;
+    }
+
+    /// Writes a number in decimal digits. The caller has shown that they fit.
+    pub fn put_number(&mut self, number: usize)
+        requires { self.old.at + length (decimal number) ≤ room_of self.old }
+        ensures { Wrote self.old self.new (decimal number) }
+    {
+        if number >= 10 {
+            self.put_number(number / 10);
+        }
+        self.put(&[b'0' + (number % 10) as u8]);
+    }
+
+    /// Writes numbers in decimal digits, with a byte between two of them. The caller has shown that they fit.
+    pub fn put_numbers(&mut self, numbers: &[usize], gap: u8)
+        requires { self.old.at + length (numbers_text gap numbers.now) ≤ room_of self.old }
+        ensures { Wrote self.old self.new (numbers_text gap numbers.now) }
+    {
+        let [first, rest @ ..] = numbers else {
+            return;
+        };
+        self.put_number(*first);
+        for number in rest {
+            self.put(&[gap]);
+            self.put_number(*number);
         }
     }
 }

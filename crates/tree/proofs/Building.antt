@@ -2,10 +2,8 @@
 use Rattle.std.proofs.Common.{◌≡◌, ℕ, ◌+◌, ◌-◌, ◌<◌, ◌≤◌, Bool, true, false, List, [], ◌∷◌, ◌++◌, map, length, get_or, take, drop, set, sym, refl, ap, ◌∙◌, subst, ap₂, append_assoc, append-nil, add-zero, add-one, arith, length-append, length-take-le, take-suc, take_at}
 use mathlib.Core.List.{map-append}
 use lib.Seq.{set_at, set_split, paste}
-use borrow.Rule.Slice.PartMut.{put_mid}
 use Rattle.std.specs.List.{flat_map, AllByRecursion}
 use Rattle.std.proofs.lemmas.List.{length-map, flat_map_more, take-append-drop}
-use Rattle.std.proofs.lemmas.Slice.{put_mid-paste}
 use Rattle.std.proofs.lemmas.List.Edits.{paste_all, paste-paste}
 use Rattle.std.proofs.ByRecursion.{All-append}
 use Rattle.tree.specs.Formulas.{World, Formula, under, connect, holds, rows}
@@ -112,10 +110,6 @@ laid_over k now m at end cs ch h (e, f) =
 -- one node written
 pub written_one : (m : List Node) (at : ℕ) (x : Node) → at < length m → set m at x ≡ written m at (x ∷ [])
 written_one m at x h = set_split m at x h ∙ ap (λ n. take at m ++ (x ∷ drop n m)) (sym (add-one at))
-
--- a part of the memory replaced by as many nodes
-pub written_part : (m part ns : List Node) (at n : ℕ) → part ≡ ns → n ≡ length ns → put_mid at n m part ≡ written m at ns
-written_part m part ns at n e l = put_mid-paste at n m part ns n e refl l ∙ paste_all m at ns n l ∙ ap (λ j. take at m ++ (ns ++ drop (at + j) m)) l
 
 -- what is written one after the other is written at once
 pub written_then : (m : List Node) (at : ℕ) (ns os : List Node) → at ≤ length m → written (written m at ns) (at + length ns) os ≡ written m at (ns ++ os)

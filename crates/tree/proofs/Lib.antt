@@ -11,10 +11,10 @@ pub mod Placing
 pub mod Building
 -- the passes over nodes
 pub mod Progress
+pub mod Visits
 pub mod Turns
 pub mod Folding
 pub mod Filling
-pub mod Ends
 -- the text
 pub mod TextTurns
 pub mod Lengths

@@ -1,9 +1,12 @@
 -- Going through the children of an and or an or, first to last.
 use Rattle.std.proofs.Common.{◌≡◌, ℕ, suc, ◌+◌, ◌<◌, ◌≤◌, List, [], ◌∷◌, ◌++◌, length, get_or, drop, sym, ap, ◌∙◌, subst, append_assoc, arith, length-append, drop-drop}
 use Rattle.std.specs.List.{flat_map}
+use Rattle.std.specs.Coded.{×_prop, le_prop}
+use Rattle.std.proofs.Math.Logic.{∥∥₁_elim}
 use Rattle.tree.specs.Formulas.{Formula, row, under, Form}
 use Rattle.tree.specs.declared.Kind.{Kind}
 use Rattle.tree.specs.declared.Node.{Node}
+use Rattle.tree.specs.declared.Node.TheVariants.{Vacant}
 use Rattle.tree.specs.Nodes.{size_of, inner}
 use Rattle.tree.specs.Layout.{spans, node, parts, laid, Lays}
 use Rattle.tree.specs.Trees.{gather, over}
@@ -113,33 +116,47 @@ module _ (fs : List Formula) (k : Kind) (at end c : ℕ) (P : Formula → Type 0
 
 -- the same, read off the nodes
 
+-- a bound that holds of each form that the nodes lay out
+pub lays_le : {ns : List Node} {a b : ℕ} → ∥ Lays ns ∥₁ → ((F : Form) → ns ≡ laid F → a ≤ b) → a ≤ b
+lays_le lays h = ∥∥₁_elim lays le_prop (λ (F, l). h F l)
+
 -- the nodes from a node down are there
-pub within : (ns : List Node) → Lays ns → (c : ℕ) (d : Node) → c < length ns → (0 < size_of (get_or ns c d)) × (c + size_of (get_or ns c d) ≤ length ns)
-within ns (F, e) c d h =
+pub within : (ns : List Node) → ∥ Lays ns ∥₁ → (c : ℕ) (d : Node) → c < length ns → (0 < size_of (get_or ns c d)) × (c + size_of (get_or ns c d) ≤ length ns)
+within ns lays c d h = ∥∥₁_elim lays (×_prop le_prop le_prop) (λ (F, e).
     let s = sized ns F e c d h in
     let (k, _) = at_node ns F e c d h in
     let (rest, n) = nested F c k in
     let b = begins (parts F) c (get_or (parts F) c (row 0)) rest n in
     let m = count ns F e in
-    (omega (arith, b.some), omega (arith, b.room))
+    (omega (arith, b.some), omega (arith, b.room)))
 
-module _ (ns : List Node) (F : Form) (lays : ns ≡ laid F) (k : Kind) (at size : ℕ) (d : Node) (inside : at < length ns) (is : get_or ns at d ≡ inner k size) where
-  pub inner_at : node (get_or (parts F) at (row 0)) ≡ inner k size
-  inner_at = sym (at_node ns F lays at d inside).1 ∙ is
+-- an and or an or among nodes that lay out a form
+pub record Branch (ns : List Node) (k : Kind) (at size : ℕ) : Type 0 where
+  pub lays : ∥ Lays ns ∥₁
+  pub inside : at < length ns
+  pub is : get_or ns at Vacant ≡ inner k size
 
-  pub start_at : Start (parts F) k at size
-  start_at = start (parts F) k at size (nested F) (at_node ns F lays at d inside).0 inner_at
+pub branch_at : {ns : List Node} {k : Kind} {at size : ℕ} → ∥ Lays ns ∥₁ → at < length ns → get_or ns at Vacant ≡ inner k size → Branch ns k at size
+branch_at l h i = record { lays = l; inside = h; is = i }
 
-  pub begin_at : at + 1 < length ns → (P : Formula → Type 0) → P (get_or (parts F) (at + 1) (row 0)) → (e : Node) (n : ℕ) → n ≡ size_of (get_or ns (at + 1) e) → Progress (parts F) k at (at + size) (at + 1 + n) P
-  begin_at h P p e n s = subst (λ m. Progress (parts F) k at (at + size) (at + 1 + m) P) (sym (s ∙ sized ns F lays (at + 1) e h)) (started (parts F) k at size P start_at p)
+module _ {ns : List Node} {k : Kind} {at size : ℕ} (b : Branch ns k at size) where
+  module _ (F : Form) (l : ns ≡ laid F) where
+    pub inner_at : node (get_or (parts F) at (row 0)) ≡ inner k size
+    inner_at = sym (at_node ns F l at Vacant b.inside).1 ∙ b.is
 
-  pub onward_at : (c : ℕ) (P Q : Formula → Type 0) → Progress (parts F) k at (at + size) c P → c < at + size → c < length ns
-      → ((f : Formula) → P f → Q (under k f (get_or (parts F) c (row 0)))) → (e : Node) (n : ℕ) → n ≡ size_of (get_or ns c e) → Progress (parts F) k at (at + size) (c + n) Q
-  onward_at c P Q p b h more e n s = subst (λ m. Progress (parts F) k at (at + size) (c + m) Q) (sym (s ∙ sized ns F lays c e h)) (step (parts F) k at (at + size) c P Q p b more)
+    pub start_at : Start (parts F) k at size
+    start_at = start (parts F) k at size (nested F) (at_node ns F l at Vacant b.inside).0 inner_at
 
--- an and or an or has a first child
-pub roomed : (ns : List Node) → Lays ns → (k : Kind) (at size : ℕ) (d : Node) → at < length ns → get_or ns at d ≡ inner k size → (at + size ≤ length ns) × (at + 1 < at + size)
-roomed ns (F, e) k at size d h i =
-    let s = start_at ns F e k at size d h i in
-    let m = count ns F e in
-    (omega (arith, s.room), s.child)
+    pub begin_at : at + 1 < length ns → (P : Formula → Type 0) → P (get_or (parts F) (at + 1) (row 0)) → Progress (parts F) k at (at + size) (at + 1 + size_of (get_or ns (at + 1) Vacant)) P
+    begin_at h P p = subst (λ m. Progress (parts F) k at (at + size) (at + 1 + m) P) (sym (sized ns F l (at + 1) Vacant h)) (started (parts F) k at size P start_at p)
+
+    pub onward_at : (c : ℕ) (P Q : Formula → Type 0) → Progress (parts F) k at (at + size) c P → c < at + size → c < length ns
+        → ((f : Formula) → P f → Q (under k f (get_or (parts F) c (row 0)))) → Progress (parts F) k at (at + size) (c + size_of (get_or ns c Vacant)) Q
+    onward_at c P Q p a h more = subst (λ m. Progress (parts F) k at (at + size) (c + m) Q) (sym (sized ns F l c Vacant h)) (step (parts F) k at (at + size) c P Q p a more)
+
+  -- it has a first child
+  pub roomed : (at + size ≤ length ns) × (at + 1 < at + size)
+  roomed = ∥∥₁_elim b.lays (×_prop le_prop le_prop) (λ (F, l).
+      let s = start_at F l in
+      let m = count ns F l in
+      (omega (arith, s.room), s.child))

@@ -1,19 +1,19 @@
 -- What is written of an and or an or, child by child.
-use Rattle.std.proofs.Common.{◌≡◌, ℕ, ◌+◌, ◌<◌, ◌≤◌, Bool, List, [], ◌∷◌, ◌++◌, length, get_or, take, drop, sym, ap, ◌∙◌, subst, append_assoc, append-nil, add-zero, arith, length-append}
-use Rattle.std.proofs.lemmas.List.{take-append-drop}
-use Rattle.text.specs.Over.{over}
-use Rattle.text.proofs.Writing.{then}
+use Rattle.std.proofs.Common.{◌≡◌, ℕ, ◌+◌, ◌<◌, ◌≤◌, Bool, List, [], ◌∷◌, ◌++◌, length, get_or, sym, ap, ◌∙◌, subst, append_assoc, append-nil, arith, length-append}
+use Rattle.text.specs.Writers.{Wrote, room_of}
+use Rattle.text.specs.declared.Writer.{Writer}
+use Rattle.text.proofs.Writing.{wrote_both, wrote_as}
 use Rattle.tree.specs.Formulas.{Formula, row, under, Form}
 use Rattle.tree.specs.declared.Kind.{Kind}
 use Rattle.tree.specs.declared.Kind.TheVariants.{And, Or}
 use Rattle.tree.specs.declared.Node.{Node}
 use Rattle.tree.specs.declared.Node.TheVariants.{Vacant, Row}
 use Rattle.tree.specs.Nodes.{inner}
-use Rattle.tree.specs.Layout.{node, parts, laid, Lays}
+use Rattle.tree.specs.Layout.{node, parts, laid}
 use Rattle.tree.specs.Trees.{gather}
 use Rattle.tree.specs.Texts.{gap, is_and, opening, closing, row_text, formula_text}
-use Rattle.tree.proofs.Nested.{inner_same, inner_not_row, row_node, not_vacant, at_node}
-use Rattle.tree.proofs.Progress.{Progress, inner_at, start_at, next_child, closed}
+use Rattle.tree.proofs.Nested.{inner_same, inner_not_row, row_node, at_node}
+use Rattle.tree.proofs.Progress.{Progress, Branch, inner_at, start_at, next_child}
 
 -- the text of some children of a node of the kind, with no brackets round them
 abbrev pub body : Kind → Formula → List ℕ
@@ -34,100 +34,68 @@ longer : (k : Kind) (f : Formula) (gs : List Formula) → length (body k f) ≤ 
 longer k f [] = omega arith
 longer k f (g ∷ gs) = omega (arith, longer k (under k f g) gs, ap length (body_under k f g), length-append (body k f) (gap k ++ body k g))
 
--- written since the first child
-pub record Since (k : Kind) (f₀ : Formula) (out₀ : List ℕ) (end₀ : ℕ) (out : List ℕ) (end : ℕ) (f : Formula) : Type 0 where
-  pub more : List ℕ
-  pub grew : body k f ≡ body k f₀ ++ more
-  pub ends : end ≡ end₀ + length more
-  pub wrote : out ≡ over out₀ end₀ more
+module _ (k : Kind) (inside : Bool) (w₀ : Writer) (room : w₀.at ≤ room_of w₀) where
+  -- what opens the node is written, and some children
+  abbrev pub Begun : Writer → Formula → Type 0
+  Begun w f = Wrote w₀ w (opening k inside ++ body k f)
 
-pub since_none : (k : Kind) (f₀ : Formula) (out₀ : List ℕ) (end₀ : ℕ) → Since k f₀ out₀ end₀ out₀ end₀ f₀
-since_none k f₀ out₀ end₀ = record {
-  more = [];
-  grew = sym (append-nil _);
-  ends = omega arith;
-  wrote = sym (take-append-drop end₀ out₀) ∙ ap (λ n. take end₀ out₀ ++ drop n out₀) (sym (add-zero end₀));
-}
+  pub begun_first : {w w' : Writer} (f : Formula) → Wrote w₀ w (opening k inside) → Wrote w w' (body k f) → Begun w' f
+  begun_first f a b = wrote_both a b room
 
-pub since_more : (k : Kind) (f₀ : Formula) (out₀ : List ℕ) (end₀ : ℕ) (out out' out'' : List ℕ) (end next end'' : ℕ) (f t : Formula) → end₀ ≤ length out₀ → end ≤ length out
-    → out' ≡ over out end (gap k) → next ≡ end + length (gap k) → out'' ≡ over out' next (body k t) → end'' ≡ next + length (body k t)
-    → Since k f₀ out₀ end₀ out end f → Since k f₀ out₀ end₀ out'' end'' (under k f t)
-since_more k f₀ out₀ end₀ out out' out'' end next end'' f t h₀ h a b c d s = record {
-  more = s.more ++ (gap k ++ body k t);
-  grew = body_under k f t ∙ ap (λ x. x ++ (gap k ++ body k t)) s.grew ∙ append_assoc (body k f₀) s.more (gap k ++ body k t);
-  ends = omega (arith, s.ends, length-append s.more (gap k ++ body k t), length-append (gap k) (body k t));
-  wrote = then out₀ out out'' end₀ end s.more (gap k ++ body k t) h₀ s.wrote s.ends (then out out' out'' end next (gap k) (body k t) h a b c);
-}
+  pub begun_more : {w w' w'' : Writer} (f t : Formula) → Begun w f → Wrote w w' (gap k) → Wrote w' w'' (body k t) → Begun w'' (under k f t)
+  begun_more f t a b c =
+      let e : ((opening k inside ++ body k f) ++ gap k) ++ body k t ≡ opening k inside ++ body k (under k f t) =
+      append_assoc (opening k inside ++ body k f) (gap k) (body k t) ∙ append_assoc (opening k inside) (body k f) (gap k ++ body k t) ∙ ap (λ x. opening k inside ++ x) (sym (body_under k f t)) in
+      wrote_as e (wrote_both (wrote_both a b room) c room)
 
-module _ (ns : List Node) (F : Form) (lays : ns ≡ laid F) (k : Kind) (at size : ℕ) (there : at < length ns) (is : get_or ns at Vacant ≡ inner k size) (inside : Bool) (begin room : ℕ)
-    (fits : begin + length (formula_text inside (get_or (parts F) at (row 0))) ≤ room) where
-  abbrev first : Formula
-  first = get_or (parts F) (at + 1) (row 0)
+  pub begun_all : {w w' : Writer} (f : Formula) (n : ℕ) → node f ≡ inner k n → Begun w f → Wrote w w' (closing k inside) → Wrote w₀ w' (formula_text inside f)
+  begun_all f n e a b = wrote_as (append_assoc (opening k inside) (body k f) (closing k inside) ∙ sym (whole_text k inside f n e)) (wrote_both a b room)
 
+module _ {ns : List Node} {k : Kind} {at size : ℕ} (b : Branch ns k at size) (F : Form) (l : ns ≡ laid F) (inside : Bool) (w₀ : Writer)
+    (fits : w₀.at + length (formula_text inside (get_or (parts F) at (row 0))) ≤ room_of w₀) where
   abbrev self : Formula
   self = get_or (parts F) at (row 0)
 
   sum_up : length (formula_text inside self) ≡ length (opening k inside) + (length (body k self) + length (closing k inside))
   sum_up =
-      ap length (whole_text k inside self size (inner_at ns F lays k at size Vacant there is))
+      ap length (whole_text k inside self size (inner_at b F l))
       ∙ length-append (opening k inside) (body k self ++ closing k inside) ∙ ap (λ n. length (opening k inside) + n) (length-append (body k self) (closing k inside))
 
-  -- there is room for the first child
-  pub room_first : begin + length (opening k inside) + length (body k first) ≤ room
-  room_first =
-      let s = start_at ns F lays k at size Vacant there is in
-      omega (arith, fits, sum_up, ap (λ f. length (body k f)) s.begin.here, ap (λ f. length (body k f)) s.whole, longer k s.first s.others)
+  -- there is room for what opens the node
+  pub room_open : w₀.at + length (opening k inside) ≤ room_of w₀
+  room_open = omega (arith, fits, sum_up)
 
-  module _ (c : ℕ) (out₀ : List ℕ) (end₀ : ℕ) (out : List ℕ) (end : ℕ) (p : Progress (parts F) k at (at + size) c (Since k first out₀ end₀ out end))
-      (begun : end₀ ≡ begin + length (opening k inside) + length (body k first)) where
-    -- and for each other
-    pub room_next : c < at + size → end + length (gap k) + length (body k (get_or (parts F) c (row 0))) ≤ room
-    room_next h =
-        let n = next_child (parts F) k at (at + size) c _ p h in
-        let t = n.next in
-        omega (
-          arith,
-          fits,
-          sum_up,
-          longer k (under k p.done t) n.later,
-          ap (λ f. length (body k f)) n.whole,
-          ap length (body_under k p.done t),
-          length-append (body k p.done) (gap k ++ body k t),
-          length-append (gap k) (body k t),
-          ap (λ f. length (body k f)) n.begin.here,
-          ap length p.worth.grew,
-          length-append (body k first) p.worth.more,
-          p.worth.ends,
-          begun,
-        )
+  -- for the first child
+  pub room_first : (w : Writer) → Wrote w₀ w (opening k inside) → w.at + length (body k (get_or (parts F) (at + 1) (row 0))) ≤ room_of w
+  room_first w a =
+      let s = start_at b F l in
+      omega (arith, fits, sum_up, a.place, a.room, ap (λ f. length (body k f)) s.begin.here, ap (λ f. length (body k f)) s.whole, longer k s.first s.others)
 
-    -- and for what closes it; then all is written
-    module _ (h : at + size ≤ c) where
-      all_since : Since k first out₀ end₀ out end self
-      all_since = closed (parts F) k at (at + size) c _ p h
+  -- for each other
+  pub room_next : (c : ℕ) (w : Writer) → Progress (parts F) k at (at + size) c (λ f. Wrote w₀ w (opening k inside ++ body k f)) → c < at + size
+      → w.at + (length (gap k) + length (body k (get_or (parts F) c (row 0)))) ≤ room_of w
+  room_next c w p h =
+      let n = next_child (parts F) k at (at + size) c _ p h in
+      let t = n.next in
+      omega (
+        arith,
+        fits,
+        sum_up,
+        longer k (under k p.done t) n.later,
+        ap (λ f. length (body k f)) n.whole,
+        ap length (body_under k p.done t),
+        length-append (body k p.done) (gap k ++ body k t),
+        length-append (gap k) (body k t),
+        ap (λ f. length (body k f)) n.begin.here,
+        p.worth.place,
+        p.worth.room,
+        length-append (opening k inside) (body k p.done),
+      )
 
-      pub ends_last : end + length (closing k inside) ≡ begin + length (formula_text inside self)
-      ends_last = let s = all_since in omega (arith, sum_up, s.ends, ap length s.grew, length-append (body k first) s.more, begun)
-
-      pub all_written : (entry o₁ last : List ℕ) (opened : ℕ) → begin ≤ length entry → o₁ ≡ over entry begin (opening k inside) → opened ≡ begin + length (opening k inside)
-          → out₀ ≡ over o₁ opened (body k first) → last ≡ over out end (closing k inside) → last ≡ over entry begin (formula_text inside self)
-      all_written entry o₁ last opened h a b d e =
-          let s = all_since in
-          let u = opening k inside in
-          let v = closing k inside in
-          let one = then entry o₁ out₀ begin opened u (body k first) h a b d in
-          let n₁ : end₀ ≡ begin + length (u ++ body k first) = omega (arith, length-append u (body k first), begun) in
-          let two = then entry out₀ out begin end₀ (u ++ body k first) s.more h one n₁ s.wrote in
-          let n₂ : end ≡ begin + length ((u ++ body k first) ++ s.more) = omega (arith, s.ends, length-append (u ++ body k first) s.more) in
-          let three = then entry out last begin end ((u ++ body k first) ++ s.more) v h two n₂ e in
-          let same : ((u ++ body k first) ++ s.more) ++ v ≡ formula_text inside self =
-          ap (λ x. x ++ v) (append_assoc u (body k first) s.more ∙ ap (λ x. u ++ x) (sym s.grew))
-          ∙ append_assoc u (body k self) v ∙ sym (whole_text k inside self size (inner_at ns F lays k at size Vacant there is)) in
-          three ∙ ap (over entry begin) same
+  -- and for what closes it
+  pub room_close : (w : Writer) → Wrote w₀ w (opening k inside ++ body k self) → w.at + length (closing k inside) ≤ room_of w
+  room_close w a = omega (arith, fits, sum_up, a.place, a.room, length-append (opening k inside) (body k self))
 
 -- a row's text
 pub row_written : (ns : List Node) (F : Form) → ns ≡ laid F → (at : ℕ) → at < length ns → (r : ℕ) → get_or ns at Vacant ≡ Row r → (b : Bool) → formula_text b (get_or (parts F) at (row 0)) ≡ row_text r
 row_written ns F l at h r e b = ap (formula_text b) (row_node (get_or (parts F) at (row 0)) r (sym (at_node ns F l at Vacant h).1 ∙ e))
-
-pub none_vacant : (ns : List Node) → Lays ns → (at : ℕ) → at < length ns → get_or ns at Vacant ≡ Vacant → ⊥
-none_vacant ns (F, l) at h e = not_vacant (get_or (parts F) at (row 0)) (sym (at_node ns F l at Vacant h).1 ∙ e)

@@ -6,3 +6,5 @@ pub mod Trees
 pub mod Chances
 pub mod Texts
 pub mod Passes
+pub mod Walks
+pub mod Builders

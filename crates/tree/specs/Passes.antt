@@ -1,7 +1,7 @@
 -- What inner contracts say of one pass over nodes that lay out a form.
 use Rattle.std.specs.Prelude.{◌≡◌, ℕ, ◌<◌, ◌≤◌, List, map, length, slice_index_or}
 use Rattle.scale.specs.Semirings.{Semiring}
-use Rattle.tree.specs.Formulas.{Formula, row, under, holds, rows}
+use Rattle.tree.specs.Formulas.{Formula, row, under, holds, rows, Form, never, form}
 use Rattle.tree.specs.Worlds.{Weights, WorldSums}
 use Rattle.tree.specs.declared.Kind.{Kind}
 use Rattle.tree.specs.declared.Kind.TheVariants.{And, Or}
@@ -29,6 +29,10 @@ abbrev pub folded : {V : Type 0} → (ℕ → V) → (Kind → V → V → V) �
 folded leaf op (row r) = leaf r
 folded leaf op (under k f g) = op k (folded leaf op f) (folded leaf op g)
 
+abbrev pub form_folded : {V : Type 0} → V → (ℕ → V) → (Kind → V → V → V) → Form → V
+form_folded none leaf op never = none
+form_folded none leaf op (form f) = folded leaf op f
+
 -- what two independent parts hold with and fail with, under an and or an or
 abbrev pub pair_under : {V : Type 0} → Semiring V → Kind → V × V → V × V → V × V
 pair_under R And p q = (R.times p.0 q.0, R.plus (R.times p.1 q.0) (R.plus (R.times p.0 q.1) (R.times p.1 q.1)))
@@ -38,6 +42,6 @@ pair_under R Or p q = (R.plus (R.times p.0 q.1) (R.plus (R.times p.1 q.0) (R.tim
 abbrev pub Worked : {V M : Type 0} → (V → M) → (Formula → M) → List Formula → ℕ → List V → Type 0
 Worked {V} mean pass fs from vs = (k : ℕ) (d : V) → from ≤ k → k < length fs → mean (slice_index_or vs k d) ≡ pass (slice_index_or fs k (row 0))
 
--- at the node of each row stands a value that means the row's leaf
-abbrev pub Leaves : {V M : Type 0} → (V → M) → (ℕ → M) → List Formula → List V → Type 0
-Leaves {V} mean leaf fs vs = (k : ℕ) (d : V) (r : ℕ) → k < length fs → slice_index_or fs k (row 0) ≡ row r → mean (slice_index_or vs k d) ≡ leaf r
+-- what is read of the row at each node means the row's leaf
+abbrev pub Reads : {V M : Type 0} → (V → M) → (ℕ → M) → (ℕ → V → Type 0) → List Node → Type 0
+Reads {V} mean leaf reads ns = (k r : ℕ) (v : V) → k < length ns → slice_index_or ns k Vacant ≡ Row r → reads r v → mean v ≡ leaf r

@@ -1,17 +1,18 @@
 //! Brackets round a chance, in billionths, and the chance of a form.
 ghost use Rattle.std.specs.Prelude.{◌≡◌, ℕ, ◌≤◌, min, length};
 ghost use Rattle.tree.specs.Formulas.{Form, ReadOnce};
-ghost use Rattle.tree.specs.Layout.{Lays, laid};
+ghost use Rattle.tree.specs.Layout.{laid};
 ghost use Rattle.tree.specs.Chances.{down, up, left, sureness, bracket_under, form_bracket, Near};
 ghost use Rattle.tree.specs.Passes.{Placed};
 
+use super::layout::Layout;
 use super::pass::{Combine, fold};
-use super::{Kind, Node, PLACES};
+use super::{Kind, PLACES};
 
 const WHOLE: u64 = 1_000_000_000;
 
 /// Two ends that a chance lies between, both included.
-#[derive(Clone, Copy)]
+#[derive(Clone, Copy, PartialEq, Eq, Debug)]
 pub struct Bracket {
     low: u64,
     high: u64,
@@ -45,7 +46,18 @@ impl Bracket {
     {
         Bracket {
             low: self.low * other.low / WHOLE,
-            high: (self.high * other.high + (WHOLE - 1)) / WHOLE,
+            high: (self.high * other.high).div_ceil(WHOLE),
+        }
+    }
+
+    // The bracket of the part that fails where this one holds.
+    fn complement(self) -> Bracket
+        ensures low { result.low ≡ left self.high }
+        ensures high { result.high ≡ left self.low }
+    {
+        Bracket {
+            low: WHOLE - self.high,
+            high: WHOLE - self.low,
         }
     }
 
@@ -54,10 +66,7 @@ impl Bracket {
         ensures low { result.low ≡ left (up (left self.low) (left other.low)) }
         ensures high { result.high ≡ left (down (left self.high) (left other.high)) }
     {
-        Bracket {
-            low: WHOLE - ((WHOLE - self.low) * (WHOLE - other.low) + (WHOLE - 1)) / WHOLE,
-            high: WHOLE - (WHOLE - self.high) * (WHOLE - other.high) / WHOLE,
-        }
+        self.complement().and(other.complement()).complement()
     }
 }
 
@@ -76,24 +85,18 @@ impl Combine for Bracket {
     }
 }
 
-/// The bracket round the chance of the form, from how sure each row is. The nodes are as building leaves them.
-pub fn chance(nodes: &[Node], sure: &[u64]) -> Bracket
-    requires laid { Lays nodes.now }
-    requires few { length nodes.now ≤ 511 }
-    requires placed { Placed nodes.now (length sure.now) }
-    ensures bracket { (F : Form) → nodes.now ≡ laid F → (result.low, result.high) ≡ form_bracket (sureness sure.now) F }
-    ensures near { (F : Form) → nodes.now ≡ laid F → ReadOnce F → Near (sureness sure.now) F (result.low, result.high) }
+/// The bracket round the chance of the form, from how sure each row is.
+pub fn chance(layout: Layout, sure: &[u64]) -> Bracket
+    requires few { length layout.nodes.now ≤ 511 }
+    requires placed { Placed layout.nodes.now (length sure.now) }
+    ensures bracket { (F : Form) → layout.entry.nodes.now ≡ laid F → (result.low, result.high) ≡ form_bracket (sureness sure.now) F }
+    ensures near { (F : Form) → layout.entry.nodes.now ≡ laid F → ReadOnce F → Near (sureness sure.now) F (result.low, result.high) }
 {
     let mut brackets = [Bracket::known(0); PLACES];
-    for (i, node) in nodes.iter().enumerate() {
-        if let Node::Row(row) = *node {
-            brackets[i] = Bracket::known(sure[row as usize]);
-        }
-    }
-    fold(nodes, &mut brackets);
-    if nodes.is_empty() {
-        Bracket::known(0)
-    } else {
-        brackets[0]
-    }
+    fold(
+        layout,
+        &mut brackets,
+        |row| Bracket::known(sure[row as usize]),
+        Bracket::known(0),
+    )
 }

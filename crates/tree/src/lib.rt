@@ -2,36 +2,50 @@
 #![tactic(auto)]
 
 ghost use Rattle.std.specs.Prelude.{◌≡◌};
-ghost use Rattle.tree.specs.Nodes.{size_of, inner_of};
+ghost use Rattle.tree.specs.Nodes.{size_of, inner, inner_of};
 
 mod bracket;
 mod build;
 mod form;
+mod layout;
 mod pass;
 mod worlds;
 
 pub use bracket::{Bracket, chance};
-pub use build::{put_inner, put_row, vacate};
+pub use build::Builder;
 pub use form::write_form;
+pub use layout::Layout;
 pub use worlds::evaluate;
 
 /// The places that node memory has: 256 rows make at most 511 nodes.
 pub const PLACES: usize = 511;
 
 /// What stands over two formulas or more.
-#[derive(Clone, Copy)]
+#[derive(Clone, Copy, PartialEq, Eq, Debug)]
 pub enum Kind {
     And,
     Or,
 }
 
 /// A place for a node: vacant, a row, or an and or an or with the number of nodes from itself down.
-#[derive(Clone, Copy)]
+#[derive(Clone, Copy, PartialEq, Eq, Debug)]
 pub enum Node {
     Vacant,
     Row(u8),
     And(u16),
     Or(u16),
+}
+
+impl Kind {
+    // The and or the or with so many nodes from itself down.
+    fn over(self, size: u16) -> Node
+        ensures { result ≡ inner self size }
+    {
+        match self {
+            Kind::And => Node::And(size),
+            Kind::Or => Node::Or(size),
+        }
+    }
 }
 
 impl Node {

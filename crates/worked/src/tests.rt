@@ -5,7 +5,7 @@ ghost use Rattle.tree.specs.Trees.{Ascending};
 
 use super::lay::lay_rows;
 use scale::Count;
-use tree::{Kind, Node, chance, evaluate, write_form};
+use tree::{Builder, Kind, Layout, Node, chance, evaluate, write_form};
 
 // The number of worlds where one of the rows is in, counted with ones.
 fn count_under_or(rows: &[u8]) -> u64
@@ -15,18 +15,28 @@ fn count_under_or(rows: &[u8]) -> u64
     requires few { length rows.now ≤ 31 }
 {
     let mut nodes = [Node::Vacant; 32];
-    let end = lay_rows(Kind::Or, rows, &mut nodes, 0);
+    let mut builder = Builder::new(&mut nodes, 0);
+    lay_rows(Kind::Or, rows, &mut builder);
+    let end = builder.place();
     let ones = [Count::new(1); 32];
     let mut pairs = [(Count::new(0), Count::new(0)); 32];
-    let (holds, _) = evaluate(&nodes[..end], &ones, &ones, &mut pairs);
+    let layout = Layout {
+        nodes: &nodes[..end],
+    };
+    let (holds, _) = evaluate(layout, &ones, &ones, &mut pairs);
     holds.value()
 }
 
 // The chance of two rows of sureness 1.
 fn two_rows(kind: Kind) -> (u64, u64) {
     let mut nodes = [Node::Vacant; 3];
-    let end = lay_rows(kind, &[0, 1], &mut nodes, 0);
-    chance(&nodes[..end], &[1, 1]).ends()
+    let mut builder = Builder::new(&mut nodes, 0);
+    lay_rows(kind, &[0, 1], &mut builder);
+    let end = builder.place();
+    let layout = Layout {
+        nodes: &nodes[..end],
+    };
+    chance(layout, &[1, 1]).ends()
 }
 
 #[test]
@@ -48,10 +58,11 @@ fn brackets_widen_by_one(rt: HostRuntime) {
 #[test]
 fn never_fails(rt: HostRuntime) {
     let none: [Count; 0] = [];
-    let (holds, fails) = evaluate(&[], &none, &none, &mut []);
+    let layout = Layout { nodes: &[] };
+    let (holds, fails) = evaluate(layout, &none, &none, &mut []);
     assert_eq!(rt; (holds.value(), fails.value()), (0, 1));
-    assert_eq!(rt; chance(&[], &[]).ends(), (0, 0));
+    assert_eq!(rt; chance(layout, &[]).ends(), (0, 0));
     let mut text = [b'-'; 8];
-    assert_eq!(rt; write_form(&[], &mut text), 5);
+    assert_eq!(rt; write_form(layout, &mut text), 5);
     assert!(rt; text == *b"never---");
 }

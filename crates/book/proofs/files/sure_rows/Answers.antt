@@ -1,19 +1,21 @@
-use Rattle.std.proofs.Common.{◌+◌, arith}
-use Rattle.book.proofs.Loading.{SureTo, sure_more, unsure_here, number_small}
-use Rattle.book.proofs.Walking.{passed_one}
+use Rattle.std.proofs.Common.{◌<◌, map, rules}
+use borrow.Author.Tests.{tests}
+use Rattle.std.proofs.lemmas.Iterator.{IsFirst-from_position}
+use Rattle.std.proofs.lemmas.List.Elements.{All-from_all_within}
+use Rattle.table_files.specs.Tables.{row_of}
+use Rattle.book.specs.Inner.{Sure}
+use Rattle.book.specs.Rows.{billion}
+use Rattle.book.proofs.Loading.{first_unsure}
+use Rattle.book.proofs.Walking.{walk_gives}
 use Rattle.book.proofs.files.sure_rows.Goals as goal
 
-pub returns-then-row-gt1000000000 : goal.returns-then-row-gt1000000000
-returns-then-row-gt1000000000 c =
-    unsure_here c.loop-row.«record» c.args.field c.args.rows c.loop-row.left c.next_row.new.self c.in-Some.row c.loop-row.invariant c.in-Some.ensures.walks c.if-row-gt1000000000.true
+pub returns-in-Some : goal.returns-in-Some
+returns-in-Some c = λ n records ahead v.
+    let first = IsFirst-from_position _ _ c.position.result (λ r. billion < r.sureness) Sure c.position.ensures.ran (walk_gives c.args.rows n records ahead) (λ x q k. search (rules, tests)) (λ x q k. search (rules, tests)) in
+    let (here, high, sure) = rw c.in-Some.is at first in
+    first_unsure 2 c.args.field c.in-Some.number (map row_of records) v here high sure
 
-pub overflow_add-record : goal.overflow_add-record
-overflow_add-record c =
-    let (n, records, a, few) = c.requires in
-    let l = number_small c.loop-row.«record» c.args.rows c.loop-row.left c.next_row.new.self c.in-Some.row c.loop-row.invariant c.in-Some.ensures.walks n records a in
-    omega arith
-
-pub loop-row-preserved : goal.loop-row-preserved
-loop-row-preserved c =
-    passed_one (SureTo c.loop-row.«record») c.args.rows c.loop-row.left c.next_row.new.self c.loop-row.invariant (SureTo (c.loop-row.«record» + 1)) c.in-Some.row c.in-Some.ensures.walks
-    (sure_more c.loop-row.«record» c.in-Some.row c.if-row-gt1000000000.false)
+pub returns-in-None : goal.returns-in-None
+returns-in-None c = λ n records ahead.
+    let first = IsFirst-from_position _ _ c.position.result (λ r. billion < r.sureness) Sure c.position.ensures.ran (walk_gives c.args.rows n records ahead) (λ x q k. search (rules, tests)) (λ x q k. search (rules, tests)) in
+    All-from_all_within Sure (map row_of records) (rw c.in-None.is at first)

@@ -3,8 +3,8 @@ use Rattle.rule.specs.Grammar.{Said}
 use Rattle.rule.proofs.Gathering.{Gathered}
 use Rattle.rule.proofs.reading.read.Given as goal
 
-abbrev pub invariant-loop-atom : goal.invariant-loop-atom
-invariant-loop-atom l = (all : List Said) × Gathered l.text l.rule l.at all
+abbrev pub invariant-loop-reader : goal.invariant-loop-reader
+invariant-loop-reader l = (said : List Said) × Gathered l.text l.rule l.reader said
 
-abbrev pub decreases-loop-atom : goal.decreases-loop-atom
-decreases-loop-atom l = length l.text - l.at
+abbrev pub decreases-loop-reader : goal.decreases-loop-reader
+decreases-loop-reader l = length l.text - l.reader.at

@@ -1,157 +1,103 @@
-use Rattle.std.proofs.Common.{◌≡◌, ◌+◌, ◌<◌, ◌≤◌, length, get_or, sym, ap, ◌∙◌, inl, inr, arith, rules}
-use Rattle.text.specs.Over.{over}
+use Rattle.std.proofs.Common.{◌+◌, ◌≤◌, length, get_or, sym, ap, ◌∙◌, arith}
+use Rattle.text.specs.Writers.{room_of}
+use Rattle.text.proofs.Writing.{wrote_both, wrote_as}
 use Rattle.tree.specs.Formulas.{row}
-use Rattle.tree.specs.declared.Node.TheVariants.{Vacant}
-use Rattle.tree.specs.Nodes.{inner}
 use Rattle.tree.specs.Layout.{parts}
 use Rattle.tree.specs.Texts.{formula_text}
-use Rattle.tree.proofs.Nested.{inner_some, inner_none}
-use Rattle.tree.proofs.Progress.{roomed, within, begin_at, onward_at}
-use Rattle.tree.proofs.TextTurns.{Since, since_none, since_more, room_first, room_next, ends_last, all_written, row_written, none_vacant}
+use Rattle.tree.proofs.Nested.{inner_some}
+use Rattle.tree.proofs.Progress.{Branch, branch_at, lays_le, roomed, inner_at}
+use Rattle.tree.proofs.Visits.{visit_first, visit_inside, visit_here, visit_next, visit_end}
+use Rattle.tree.proofs.TextTurns.{begun_first, begun_more, begun_all, room_open, room_first, room_next, room_close, row_written}
+use Rattle.tree.proofs.form.+put_part.Goals.{Start, In-Some}
 use Rattle.tree.proofs.form.+put_part.Goals as goal
 
-pub put_row_text-requires : goal.put_row_text-requires
-put_row_text-requires t c =
-    let (F, l) = c.requires.laid in
-    omega (arith, c.requires.room F l, ap length (row_written c.args.nodes.now F l c.args.at c.requires.there c.in-Row.row c.in-Row.is c.args.inside))
+begin : (t : _) (c : Start t) → c.args.writer.now.at ≤ room_of c.args.writer.now
+begin t c = lays_le c.args.layout.lays (λ F l. omega (arith, c.requires.room F l))
 
-pub returns-in-Row : goal.returns-in-Row
-returns-in-Row t c =
-    record {
-      ends = λ F l. c.put_row_text.ensures.ends ∙ ap (λ x. c.args.start + length x) (sym (row_written c.args.nodes.now F l c.args.at c.requires.there c.in-Row.row c.in-Row.is c.args.inside));
-      wrote = λ F l. c.put_row_text.ensures.wrote ∙ ap (over c.args.out.now c.args.start) (sym (row_written c.args.nodes.now F l c.args.at c.requires.there c.in-Row.row c.in-Row.is c.args.inside));
-    }
-
-pub returns-in_default-inner : goal.returns-in_default-inner
-returns-in_default-inner t c =
-    absurd (elim (inner_none _ (sym c.in_default-inner.is ∙ c.inner.ensures)) [ inl r ↦ c.in_default.not-Row r.0 r.1 | inr v ↦ none_vacant c.args.nodes.now c.requires.laid c.args.at c.requires.there v ])
-
-pub put-opened-requires : goal.put-opened-requires
-put-opened-requires t c =
-    let is : get_or c.args.nodes.now c.args.at Vacant ≡ inner c.in-Some.kind c.in-Some.size = inner_some _ c.in-Some.kind c.in-Some.size (sym c.in-Some.is ∙ c.inner.ensures) in
-    let (F, l) = c.requires.laid in
-    omega (arith, room_first c.args.nodes.now F l c.in-Some.kind c.args.at c.in-Some.size c.requires.there is c.args.inside c.args.start (length c.args.out.now) (c.requires.room F l), ap length c.brackets.ensures.0)
-
-pub put_part-end-requires : goal.put_part-end-requires
-put_part-end-requires t c =
-    let is : get_or c.args.nodes.now c.args.at Vacant ≡ inner c.in-Some.kind c.in-Some.size = inner_some _ c.in-Some.kind c.in-Some.size (sym c.in-Some.is ∙ c.inner.ensures) in
-    let r = roomed c.args.nodes.now c.requires.laid c.in-Some.kind c.args.at c.in-Some.size Vacant c.requires.there is in
-    let n : c.args.at + 1 < length c.args.nodes.now = omega arith in (
-      omega arith,
-      (
-        c.requires.laid,
-        (
-          n,
-          λ F l.
-              omega (arith, room_first c.args.nodes.now F l c.in-Some.kind c.args.at c.in-Some.size c.requires.there is c.args.inside c.args.start (length c.args.out.now) (c.requires.room F l), ap length c.brackets.ensures.0, c.put-opened.ensures.ends, ap (λ b. length (formula_text b (get_or (parts F) (c.args.at + 1) (row 0)))) c.encloses.ensures, c.put-opened.auto.out),
-        ),
-      ),
-    )
-
-pub bounds-nodes-at-3 : goal.bounds-nodes-at-3
-bounds-nodes-at-3 t c =
-    let is : get_or c.args.nodes.now c.args.at Vacant ≡ inner c.in-Some.kind c.in-Some.size = inner_some _ c.in-Some.kind c.in-Some.size (sym c.in-Some.is ∙ c.inner.ensures) in
-    let r = roomed c.args.nodes.now c.requires.laid c.in-Some.kind c.args.at c.in-Some.size Vacant c.requires.there is in
-    omega arith
-
-pub overflow_add-child-2 : goal.overflow_add-child-2
-overflow_add-child-2 t c =
-    let is : get_or c.args.nodes.now c.args.at Vacant ≡ inner c.in-Some.kind c.in-Some.size = inner_some _ c.in-Some.kind c.in-Some.size (sym c.in-Some.is ∙ c.inner.ensures) in
-    let r = roomed c.args.nodes.now c.requires.laid c.in-Some.kind c.args.at c.in-Some.size Vacant c.requires.there is in
-    let w = within c.args.nodes.now c.requires.laid (c.args.at + 1) Vacant (omega arith) in
-    let k : c.args.at + 1 + c.size.result ≤ length c.args.nodes.now = omega (arith, c.size.ensures) in
-    search rules
-
-pub loop-child-init : goal.loop-child-init
-loop-child-init t c =
-    let is : get_or c.args.nodes.now c.args.at Vacant ≡ inner c.in-Some.kind c.in-Some.size = inner_some _ c.in-Some.kind c.in-Some.size (sym c.in-Some.is ∙ c.inner.ensures) in
-    let r = roomed c.args.nodes.now c.requires.laid c.in-Some.kind c.args.at c.in-Some.size Vacant c.requires.there is in (
-      omega arith,
-      r.0,
-      λ F l. begin_at c.args.nodes.now F l c.in-Some.kind c.args.at c.in-Some.size Vacant c.requires.there is (omega arith) _ (since_none c.in-Some.kind (get_or (parts F) (c.args.at + 1) (row 0)) c.put_part-end.new.out c.put_part-end.result) Vacant c.size.result c.size.ensures,
-    )
-
-pub put-next-requires : goal.put-next-requires
-put-next-requires t c =
-    let is : get_or c.args.nodes.now c.args.at Vacant ≡ inner c.in-Some.kind c.in-Some.size = inner_some _ c.in-Some.kind c.in-Some.size (sym c.in-Some.is ∙ c.inner.ensures) in
-    let (F, l) = c.requires.laid in
-    omega (arith, room_next c.args.nodes.now F l c.in-Some.kind c.args.at c.in-Some.size c.requires.there is c.args.inside c.args.start (length c.args.out.now) (c.requires.room F l) c.loop-child.child c.put_part-end.new.out c.put_part-end.result c.loop-child.out c.loop-child.end (c.loop-child.invariant.2 F l) (omega (arith, ap length c.brackets.ensures.0, c.put-opened.ensures.ends, c.put_part-end.ensures.ends F l, ap (λ b. length (formula_text b (get_or (parts F) (c.args.at + 1) (row 0)))) c.encloses.ensures)) c.loop-child-test.true, ap length c.between.ensures, c.loop-child.auto.out)
-
-pub put_part-end-requires-in-loop-child : goal.put_part-end-requires-in-loop-child
-put_part-end-requires-in-loop-child t c =
-    let is : get_or c.args.nodes.now c.args.at Vacant ≡ inner c.in-Some.kind c.in-Some.size = inner_some _ c.in-Some.kind c.in-Some.size (sym c.in-Some.is ∙ c.inner.ensures) in
-    let n : c.loop-child.child < length c.args.nodes.now = omega (arith, c.loop-child.invariant.1) in (
-      omega (arith, c.loop-child.invariant.0),
-      (
-        c.requires.laid,
-        (
-          n,
-          λ F l.
-              omega (
-                arith,
-                room_next c.args.nodes.now F l c.in-Some.kind c.args.at c.in-Some.size c.requires.there is c.args.inside c.args.start (length c.args.out.now) (c.requires.room F l) c.loop-child.child c.put_part-end.new.out c.put_part-end.result c.loop-child.out c.loop-child.end (c.loop-child.invariant.2 F l) (omega (arith, ap length c.brackets.ensures.0, c.put-opened.ensures.ends, c.put_part-end.ensures.ends F l, ap (λ b. length (formula_text b (get_or (parts F) (c.args.at + 1) (row 0)))) c.encloses.ensures)) c.loop-child-test.true,
-                ap length c.between.ensures,
-                c.loop-child.auto.out,
-                c.put-next.ensures.ends,
-                c.put-next.auto.out,
-                ap (λ b. length (formula_text b (get_or (parts F) c.loop-child.child (row 0)))) c.encloses-in-loop-child.ensures,
-              ),
-        ),
-      ),
-    )
-
-pub overflow_add-child-in-loop-child : goal.overflow_add-child-in-loop-child
-overflow_add-child-in-loop-child t c =
-    let n : c.loop-child.child < length c.args.nodes.now = omega (arith, c.loop-child.invariant.1) in
-    let w = within c.args.nodes.now c.requires.laid c.loop-child.child Vacant n in
-    let k : c.loop-child.child + c.size-child.result ≤ length c.args.nodes.now = omega (arith, c.size-child.ensures) in
-    search rules
-
-pub loop-child-smaller : goal.loop-child-smaller
-loop-child-smaller t c =
-    let n : c.loop-child.child < length c.args.nodes.now = omega (arith, c.loop-child.invariant.1) in
-    let w = within c.args.nodes.now c.requires.laid c.loop-child.child Vacant n in
-    omega (arith, c.size-child.ensures)
-
-pub loop-child-preserved : goal.loop-child-preserved
-loop-child-preserved t c =
-    let is : get_or c.args.nodes.now c.args.at Vacant ≡ inner c.in-Some.kind c.in-Some.size = inner_some _ c.in-Some.kind c.in-Some.size (sym c.in-Some.is ∙ c.inner.ensures) in
-    let k = c.in-Some.kind in
-    let p = c.put_part-end-in-loop-child in
-    let gap-wrote = c.put-next.ensures.wrote ∙ ap (over c.loop-child.out c.loop-child.end) c.between.ensures in
-    let gap_ends = c.put-next.ensures.ends ∙ ap (λ x. c.loop-child.end + length x) c.between.ensures in (
-      omega (arith, c.loop-child.invariant.0),
-      c.loop-child.invariant.1,
-      λ F l.
-          let child = get_or (parts F) c.loop-child.child (row 0) in
-          let first_fits : c.put_part-end.result ≤ length c.put_part-end.new.out = omega (arith, room_first c.args.nodes.now F l c.in-Some.kind c.args.at c.in-Some.size c.requires.there is c.args.inside c.args.start (length c.args.out.now) (c.requires.room F l), ap length c.brackets.ensures.0, c.put-opened.ensures.ends, c.put_part-end.ensures.ends F l, ap (λ b. length (formula_text b (get_or (parts F) (c.args.at + 1) (row 0)))) c.encloses.ensures, c.put-opened.auto.out, c.put_part-end.auto.out) in
-          let next_fits : c.loop-child.end ≤ length c.loop-child.out = omega (arith, room_next c.args.nodes.now F l c.in-Some.kind c.args.at c.in-Some.size c.requires.there is c.args.inside c.args.start (length c.args.out.now) (c.requires.room F l) c.loop-child.child c.put_part-end.new.out c.put_part-end.result c.loop-child.out c.loop-child.end (c.loop-child.invariant.2 F l) (omega (arith, ap length c.brackets.ensures.0, c.put-opened.ensures.ends, c.put_part-end.ensures.ends F l, ap (λ b. length (formula_text b (get_or (parts F) (c.args.at + 1) (row 0)))) c.encloses.ensures)) c.loop-child-test.true, c.loop-child.auto.out) in
-          let child-wrote = p.ensures.wrote F l ∙ ap (λ b. over c.put-next.new.out c.put-next.result (formula_text b child)) c.encloses-in-loop-child.ensures in
-          let child-ends = p.ensures.ends F l ∙ ap (λ b. c.put-next.result + length (formula_text b child)) c.encloses-in-loop-child.ensures in
-          onward_at c.args.nodes.now F l k c.args.at c.in-Some.size Vacant c.requires.there is c.loop-child.child
-          (Since k (get_or (parts F) (c.args.at + 1) (row 0)) c.put_part-end.new.out c.put_part-end.result c.loop-child.out c.loop-child.end)
-          (Since k (get_or (parts F) (c.args.at + 1) (row 0)) c.put_part-end.new.out c.put_part-end.result p.new.out p.result)
-          (c.loop-child.invariant.2 F l) c.loop-child-test.true (omega (arith, c.loop-child.invariant.1))
-          (λ f s. since_more k (get_or (parts F) (c.args.at + 1) (row 0)) c.put_part-end.new.out c.put_part-end.result c.loop-child.out c.put-next.new.out p.new.out c.loop-child.end c.put-next.result p.result f child
-          first_fits next_fits gap-wrote gap_ends child-wrote child-ends s)
-          Vacant c.size-child.result c.size-child.ensures,
-    )
+here : (t : _) (c : In-Some t) → Branch c.args.layout.nodes.now c.in-Some.kind c.args.at c.in-Some.size
+here t c = branch_at c.args.layout.lays c.requires.there (inner_some _ c.in-Some.kind c.in-Some.size (sym c.in-Some.is ∙ c.inner.ensures))
 
 pub put-requires : goal.put-requires
 put-requires t c =
-    let is : get_or c.args.nodes.now c.args.at Vacant ≡ inner c.in-Some.kind c.in-Some.size = inner_some _ c.in-Some.kind c.in-Some.size (sym c.in-Some.is ∙ c.inner.ensures) in
-    let (F, l) = c.requires.laid in
-    omega (arith, ends_last c.args.nodes.now F l c.in-Some.kind c.args.at c.in-Some.size c.requires.there is c.args.inside c.args.start (length c.args.out.now) (c.requires.room F l) c.loop-child.child c.put_part-end.new.out c.put_part-end.result c.loop-child.out c.loop-child.end (c.loop-child.invariant.2 F l) (omega (arith, ap length c.brackets.ensures.0, c.put-opened.ensures.ends, c.put_part-end.ensures.ends F l, ap (λ b. length (formula_text b (get_or (parts F) (c.args.at + 1) (row 0)))) c.encloses.ensures)) c.loop-child-test.false, c.requires.room F l, ap length c.brackets.ensures.1, c.loop-child.auto.out)
+    let a = c.args in
+    lays_le a.layout.lays (λ F l. omega (arith, c.requires.room F l, ap length (row_written a.layout.nodes.now F l a.at c.requires.there c.in-Row.row c.in-Row.is a.inside)))
 
-pub returns : goal.returns
-returns t c =
-    let is : get_or c.args.nodes.now c.args.at Vacant ≡ inner c.in-Some.kind c.in-Some.size = inner_some _ c.in-Some.kind c.in-Some.size (sym c.in-Some.is ∙ c.inner.ensures) in
-    record {
-      ends = λ F l. omega (arith, ends_last c.args.nodes.now F l c.in-Some.kind c.args.at c.in-Some.size c.requires.there is c.args.inside c.args.start (length c.args.out.now) (c.requires.room F l) c.loop-child.child c.put_part-end.new.out c.put_part-end.result c.loop-child.out c.loop-child.end (c.loop-child.invariant.2 F l) (omega (arith, ap length c.brackets.ensures.0, c.put-opened.ensures.ends, c.put_part-end.ensures.ends F l, ap (λ b. length (formula_text b (get_or (parts F) (c.args.at + 1) (row 0)))) c.encloses.ensures)) c.loop-child-test.false, c.put.ensures.ends, ap length c.brackets.ensures.1);
-      wrote = λ F l. all_written c.args.nodes.now F l c.in-Some.kind c.args.at c.in-Some.size c.requires.there is c.args.inside c.args.start (length c.args.out.now) (c.requires.room F l) c.loop-child.child c.put_part-end.new.out c.put_part-end.result c.loop-child.out c.loop-child.end (c.loop-child.invariant.2 F l) (omega (arith, ap length c.brackets.ensures.0, c.put-opened.ensures.ends, c.put_part-end.ensures.ends F l, ap (λ b. length (formula_text b (get_or (parts F) (c.args.at + 1) (row 0)))) c.encloses.ensures)) c.loop-child-test.false c.args.out.now c.put-opened.new.out c.put.new.out c.put-opened.result
-          (omega (arith, c.requires.room F l))
-          (c.put-opened.ensures.wrote ∙ ap (over c.args.out.now c.args.start) c.brackets.ensures.0)
-          (c.put-opened.ensures.ends ∙ ap (λ x. c.args.start + length x) c.brackets.ensures.0)
-          (c.put_part-end.ensures.wrote F l ∙ ap (λ b. over c.put-opened.new.out c.put-opened.result (formula_text b (get_or (parts F) (c.args.at + 1) (row 0)))) c.encloses.ensures)
-          (c.put.ensures.wrote ∙ ap (over c.loop-child.out c.loop-child.end) c.brackets.ensures.1);
-    }
+pub put_number-requires : goal.put_number-requires
+put_number-requires t c =
+    let a = c.args in
+    lays_le a.layout.lays (λ F l. omega (arith, c.requires.room F l, ap length (row_written a.layout.nodes.now F l a.at c.requires.there c.in-Row.row c.in-Row.is a.inside), c.put.ensures.place, c.put.ensures.room))
+
+pub returns-in-Row : goal.returns-in-Row
+returns-in-Row t c F l =
+    let a = c.args in
+    wrote_as (sym (row_written a.layout.nodes.now F l a.at c.requires.there c.in-Row.row c.in-Row.is a.inside)) (wrote_both c.put.ensures c.put_number.ensures (begin t (goal.at.returns-in-Row t c).Start))
+
+pub put-requires-in-Some : goal.put-requires-in-Some
+put-requires-in-Some t c =
+    let b = here t (goal.at.put-requires-in-Some t c).In-Some in
+    lays_le b.lays (λ F l. omega (arith, room_open b F l c.args.inside c.args.writer.now (c.requires.room F l), ap length c.brackets.ensures.0))
+
+pub put_part-requires : goal.put_part-requires
+put_part-requires t c =
+    let b = here t (goal.at.put_part-requires t c).In-Some in
+    let r = roomed b in (
+      omega arith,
+      (
+        omega arith,
+        λ F l.
+            let f = room_first b F l c.args.inside c.args.writer.now (c.requires.room F l) c.put-in-Some.new.self (wrote_as c.brackets.ensures.0 c.put-in-Some.ensures) in
+            omega (arith, f, ap (λ i. length (formula_text i (get_or (parts F) (c.args.at + 1) (row 0)))) c.is_and.ensures),
+      ),
+    )
+
+pub loop-child-init : goal.loop-child-init
+loop-child-init t c =
+    let e = c.later_children-child-items.ensures in
+    visit_first (here t (goal.at.loop-child-init t c).In-Some) _ c.into_iter-child-iterator.ensures.into_iter_gives e.nodes e.begin e.end
+    (λ F l. let first = get_or (parts F) (c.args.at + 1) (row 0) in
+    begun_first c.in-Some.kind c.args.inside c.args.writer.now (begin t (goal.at.loop-child-init t c).Start) first
+    (wrote_as c.brackets.ensures.0 c.put-in-Some.ensures) (wrote_as (ap (λ i. formula_text i first) c.is_and.ensures) (c.put_part.ensures F l)))
+
+pub put-requires-in-loop-child : goal.put-requires-in-loop-child
+put-requires-in-loop-child t c =
+    let b = here t (goal.at.put-requires-in-loop-child t c).In-Some in
+    lays_le b.lays (λ F l.
+    let (p, h) = visit_here b c.next.ensures.steps c.loop-child.invariant c.in-Some-child.child c.in-Some-child.is F l in
+    omega (arith, room_next b F l c.args.inside c.args.writer.now (c.requires.room F l) c.in-Some-child.child c.loop-child.writer p h, ap length c.gap.ensures))
+
+pub put_part-requires-in-loop-child : goal.put_part-requires-in-loop-child
+put_part-requires-in-loop-child t c =
+    let b = here t (goal.at.put_part-requires-in-loop-child t c).In-Some in
+    let next = c.in-Some-child.child in
+    let (s, n) = visit_inside b c.next.ensures.steps c.loop-child.invariant next c.in-Some-child.is in (
+      omega arith,
+      (
+        n,
+        λ F l.
+            let (p, h) = visit_here b c.next.ensures.steps c.loop-child.invariant next c.in-Some-child.is F l in
+            let f = room_next b F l c.args.inside c.args.writer.now (c.requires.room F l) next c.loop-child.writer p h in
+            let w = c.put-in-loop-child.ensures in
+            omega (arith, f, ap length c.gap.ensures, w.place, w.room, ap (λ i. length (formula_text i (get_or (parts F) next (row 0)))) c.is_and-in-loop-child.ensures),
+      ),
+    )
+
+pub loop-child-preserved : goal.loop-child-preserved
+loop-child-preserved t c =
+    visit_next (here t (goal.at.loop-child-preserved t c).In-Some) c.next.ensures.steps c.loop-child.invariant c.in-Some-child.child c.in-Some-child.is _
+    (λ F l f p. let next = get_or (parts F) c.in-Some-child.child (row 0) in
+    begun_more c.in-Some.kind c.args.inside c.args.writer.now (begin t (goal.at.loop-child-preserved t c).Start) f next p
+    (wrote_as c.gap.ensures c.put-in-loop-child.ensures) (wrote_as (ap (λ i. formula_text i next) c.is_and-in-loop-child.ensures) (c.put_part-in-loop-child.ensures F l)))
+
+pub put-requires-in-Some-2 : goal.put-requires-in-Some-2
+put-requires-in-Some-2 t c =
+    let b = here t (goal.at.put-requires-in-Some-2 t c).In-Some in
+    lays_le b.lays (λ F l.
+    let e = visit_end b c.next.ensures.steps c.loop-child.invariant c.in-None.is F l in
+    omega (arith, room_close b F l c.args.inside c.args.writer.now (c.requires.room F l) c.loop-child.writer e, ap length c.brackets.ensures.1))
+
+pub returns-in-None : goal.returns-in-None
+returns-in-None t c F l =
+    let b = here t (goal.at.returns-in-None t c).In-Some in
+    let e = visit_end b c.next.ensures.steps c.loop-child.invariant c.in-None.is F l in
+    begun_all c.in-Some.kind c.args.inside c.args.writer.now (begin t (goal.at.returns-in-None t c).Start) (get_or (parts F) c.args.at (row 0)) c.in-Some.size (inner_at b F l) e
+    (wrote_as c.brackets.ensures.1 c.put-in-Some-2.ensures)

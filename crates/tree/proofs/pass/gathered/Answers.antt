@@ -1,55 +1,32 @@
-use Rattle.std.proofs.Common.{◌+◌, ◌≤◌, length, arith, rules}
-use Rattle.tree.specs.Layout.{parts}
-use Rattle.tree.specs.declared.Node.TheVariants.{Vacant}
-use Rattle.tree.proofs.Progress.{within, roomed, closed}
-use Rattle.tree.proofs.Turns.{Means, begun, onward}
+use Rattle.std.proofs.Common.{◌+◌, arith}
+use Rattle.tree.proofs.Progress.{Branch, branch_at, roomed}
+use Rattle.tree.proofs.Turns.{Means, means_read, means_more}
+use Rattle.tree.proofs.Visits.{visit_first, visit_inside, visit_next, visit_end}
+use Rattle.tree.proofs.pass.gathered.Goals.{Start}
 use Rattle.tree.proofs.pass.gathered.Goals as goal
 
-pub bounds-values-child : goal.bounds-values-child
-bounds-values-child g c = omega (arith, roomed c.args.nodes.now c.requires.laid c.args.kind c.args.at c.args.size Vacant c.requires.inside c.requires.there)
+here : (g : _) (c : Start g) → Branch c.args.layout.nodes.now c.args.kind c.args.at c.args.size
+here g c = branch_at c.args.layout.lays c.requires.inside c.requires.there
 
-pub bounds-nodes-child : goal.bounds-nodes-child
-bounds-nodes-child g c = omega (arith, roomed c.args.nodes.now c.requires.laid c.args.kind c.args.at c.args.size Vacant c.requires.inside c.requires.there)
-
-pub overflow_add-child-2 : goal.overflow_add-child-2
-overflow_add-child-2 g c =
-    let r = roomed c.args.nodes.now c.requires.laid c.args.kind c.args.at c.args.size Vacant c.requires.inside c.requires.there in
-    let w = within c.args.nodes.now c.requires.laid (c.args.at + 1) Vacant (omega arith) in
-    let k : c.args.at + 1 + c.size-child.result ≤ length c.args.nodes.now = omega (arith, c.size-child.ensures) in
-    search rules
+pub bounds-values-at : goal.bounds-values-at
+bounds-values-at g c = omega (arith, roomed (here g (goal.at.bounds-values-at g c).Start))
 
 pub loop-child-init : goal.loop-child-init
 loop-child-init g c =
-    let r = roomed c.args.nodes.now c.requires.laid c.args.kind c.args.at c.args.size Vacant c.requires.inside c.requires.there in (
-      omega arith,
-      r.0,
-      λ F e. begun g.V.Combine.op g.V.Combine.mean c.args.nodes.now F e c.args.values.now c.args.kind c.args.at c.args.size
-          c.requires.inside c.requires.there (omega arith) c.index-values-child.result c.index-values-child.is c.size-child.result c.size-child.ensures,
-    )
-
-pub overflow_add-child-in-loop-child : goal.overflow_add-child-in-loop-child
-overflow_add-child-in-loop-child g c =
-    let w = within c.args.nodes.now c.requires.laid c.loop-child.child Vacant (omega arith) in
-    let k : c.loop-child.child + c.size-child-in-loop-child.result ≤ length c.args.nodes.now = omega (arith, c.size-child-in-loop-child.ensures) in
-    search rules
-
-pub loop-child-smaller : goal.loop-child-smaller
-loop-child-smaller g c =
-    let w = within c.args.nodes.now c.requires.laid c.loop-child.child Vacant (omega arith) in
-    omega (arith, c.size-child-in-loop-child.ensures)
+    let a = c.args in
+    let e = c.later_children-child-items.ensures in
+    let b = here g (goal.at.loop-child-init g c).Start in
+    let r = roomed b in
+    visit_first b (Means g.V.Combine.mean g.V.Combine.op a.at a.values.now c.index-values-at.result) c.into_iter-child-iterator.ensures.into_iter_gives e.nodes e.begin e.end
+    (λ F l. means_read g.V.Combine.mean g.V.Combine.op a.at a.values.now a.layout.nodes.now F l (a.at + 1) _ (omega arith) (omega arith) c.index-values-at.is)
 
 pub loop-child-preserved : goal.loop-child-preserved
 loop-child-preserved g c =
-    let i = c.loop-child.invariant in (
-      omega arith,
-      i.1,
-      λ F e. onward g.V.Combine.op g.V.Combine.mean c.args.nodes.now F e c.args.values.now c.args.kind c.args.at c.args.size
-          c.requires.inside c.requires.there c.loop-child.child c.loop-child.value c.index-values-child-in-loop-child.result c.combine-value.result (i.2 F e) i.0 c.loop-child-test.true (omega arith)
-          c.index-values-child-in-loop-child.is c.combine-value.ensures c.size-child-in-loop-child.result c.size-child-in-loop-child.ensures,
-    )
+    let a = c.args in
+    let b = here g (goal.at.loop-child-preserved g c).Start in
+    let (s, h) = visit_inside b c.next.ensures.steps c.loop-child.invariant c.in-Some.child c.in-Some.is in
+    visit_next b c.next.ensures.steps c.loop-child.invariant c.in-Some.child c.in-Some.is _
+    (λ F l. means_more g.V.Combine.mean g.V.Combine.op a.at a.values.now a.layout.nodes.now F l a.kind c.in-Some.child c.loop-child.value c.index-values-child.result c.combine-value.result s h c.index-values-child.is c.combine-value.ensures)
 
 pub returns : goal.returns
-returns g c F leaf e w =
-    closed (parts F) c.args.kind c.args.at (c.args.at + c.args.size) c.loop-child.child
-    (Means g.V.Combine.op g.V.Combine.mean (parts F) (c.args.at + 1) c.args.values.now c.loop-child.value)
-    (c.loop-child.invariant.2 F e) c.loop-child-test.false leaf w
+returns g c F leaf l w = visit_end (here g (goal.at.returns g c).Start) c.next.ensures.steps c.loop-child.invariant c.in-None.is F l leaf w

@@ -1,11 +1,14 @@
-use Rattle.std.proofs.Common.{arith, length-take}
+use Rattle.std.proofs.Common.{replicate, rules}
 use Rattle.tree.specs.declared.Kind.TheVariants.{Or}
-use Rattle.worked.proofs.Laying.{rows_form, rows_laid, rows_placed}
+use Rattle.tree.specs.declared.Node.TheVariants.{Vacant}
+use Rattle.worked.proofs.Laying.{rows_laid}
 use Rattle.worked.proofs.tests.count_under_or.Goals as goal
 
-pub evaluate-requires : goal.evaluate-requires
-evaluate-requires c =
-    let rs = c.args.rows.now in
-    let l = rows_laid Or rs c.requires.two c.requires.order _ c.lay_rows-end.new.nodes c.lay_rows-end.result c.lay_rows-end.ensures.laid (omega (arith, c.lay_rows-end.ensures.ends)) in
-    let p = rows_placed Or rs c.requires.two c.requires.order _ l 32 c.requires.small in
-    record { laid = (rows_form Or rs c.requires.two c.requires.order, l); placed = (p, p); room = omega (arith, length-take c.lay_rows-end.result c.lay_rows-end.new.nodes, c.lay_rows-end.ensures.ends) }
+pub invariant_of-layout : goal.invariant_of-layout
+invariant_of-layout c =
+    record { lays = ∣ (rows_laid Or c.args.rows.now c.requires.two c.requires.order (replicate 32 Vacant) _ c.place-end.result 32 (search rules) (search rules) c.requires.small).0 ∣₁ }
+
+pub evaluate-requires-clause-placed : goal.evaluate-requires-clause-placed
+evaluate-requires-clause-placed c =
+    let p = (rows_laid Or c.args.rows.now c.requires.two c.requires.order (replicate 32 Vacant) _ c.place-end.result 32 (search rules) (search rules) c.requires.small).1 in
+    (p, p)

@@ -1,15 +1,14 @@
-use Rattle.std.proofs.Common.{◌∙◌, rules}
-use Rattle.graph.proofs.Above.{co_neighbours, co_outside}
+use Rattle.std.proofs.Common.{arith}
+use Rattle.std.proofs.lemmas.Bool.Decides.{nat_tests}
+use Rattle.graph.specs.Graphs.{complement}
 use Rattle.graph.proofs.graphs.ComplementGraph.neighbours.Goals as goal
 
 pub returns-then-a-size : goal.returns-then-a-size
-returns-then-a-size g c k = c.empty.ensures k ∙ co_outside _ _ c.args.a k (search rules)
+unfolding complement
+returns-then-a-size g c k = grind (arith, nat_tests, c.empty.ensures k)
 
 pub returns : goal.returns
+unfolding complement
 returns g c k =
-    let all = c.below-others.ensures k in
-    let others = c.remove.ensures k in
-    let joined = c.neighbours.ensures k in
-    let left = c.difference.ensures k in
-    let is = co_neighbours (g.G.Graph.laws c.args.self.now.of.now) c.args.a k (search rules) in
-    cc
+    let few = (g.met.G.Graph.laws c.args.self.now.of.now).few in
+    grind (arith, nat_tests, few, c.below-others.ensures k, c.remove.ensures k, c.neighbours.ensures k, c.difference.ensures k)

@@ -1,10 +1,10 @@
-use Rattle.std.proofs.Common.{◌∙◌, ⊎_elim}
-use Rattle.graph.proofs.Above.{unjoined_past}
+use Rattle.std.proofs.Common.{arith}
 use Rattle.graph.proofs.graphs.Graph.joined.Goals as goal
 
-pub returns-then-a-ge256 : goal.returns-then-a-ge256
-returns-then-a-ge256 g c =
-    let G = g.Self.Graph.laws c.args.self.now in
-    let a = c.args.a in
-    let b = c.args.b in
-    ⊎_elim (λ far. unjoined_past G a b far) (λ far. unjoined_past G b a far.1 ∙ G.symmetric b a) c.then-a-ge256.either
+pub returns-in_default : goal.returns-in_default
+returns-in_default g c = let G = g.met.Self.Graph.laws c.args.self.now in grind (arith, G.few, G.within c.args.a c.args.b)
+
+pub returns-in_default-try_from : goal.returns-in_default-try_from
+returns-in_default-try_from g c =
+    let G = g.met.Self.Graph.laws c.args.self.now in
+    grind (arith, G.few, G.within c.args.b c.args.a, G.symmetric c.args.a c.args.b)

@@ -1,12 +1,21 @@
-use Rattle.std.proofs.Common.{◌^◌, ◌<◌, get_or, sym, rules}
+use Rattle.std.proofs.Common.{◌≡◌, ◌<◌, count_ones, ◌∙◌, arith, rules}
+use Rattle.std.specs.List.{sum_by}
 use Rattle.graph.specs.Members.{member}
-use Rattle.graph.proofs.Bits.{four}
-use Rattle.graph.proofs.Tallies.{tally_words}
+use Rattle.graph.proofs.Bits.{in_set}
+use Rattle.graph.proofs.Tallies.{tally_words, tally_le}
 use Rattle.graph.proofs.sets.MemberSet.count.Goals as goal
+
+pub sum-requires-clause-fits : goal.sum-requires-clause-fits
+sum-requires-clause-fits c =
+    let words = c.args.self.words in
+    let is = tally_words words (search rules) (λ i l. search rules) in
+    let few = tally_le (in_set words) 256 in
+    let fits : sum_by count_ones words < 4294967296 = omega arith in
+    search rules
 
 pub returns : goal.returns
 unfolding member
 returns c =
     let words = c.args.self.words in
-    let sum = sym (tally_words words (four (λ i. get_or words i 0 < 2 ^ 64) (search rules) (search rules) (search rules) (search rules))) in
-    search rules
+    let is : c.sum.result ≡ sum_by count_ones words = search rules in
+    is ∙ tally_words words (search rules) (λ i l. search rules)

@@ -1,8 +1,10 @@
-use Rattle.std.proofs.Common.{◌/◌, [], ◌∷◌, arith}
+use Rattle.std.proofs.Common.{◌≡◌, ℕ, ◌/◌, List, [], ◌∷◌, get_or, refl, arith}
 use Rattle.graph.specs.Members.{member}
-use Rattle.graph.proofs.Bits.{none_in, zipped}
+use Rattle.graph.proofs.Bits.{none_in, four}
 use Rattle.graph.proofs.sets.MemberSet.empty.Goals as goal
 
 pub returns : goal.returns
 unfolding member
-returns c k = none_in (0 ∷ 0 ∷ 0 ∷ 0 ∷ []) k (λ h. zipped (λ _ _. 0) [] [] (k / 64) (omega arith))
+returns c k =
+    let words : List ℕ = 0 ∷ 0 ∷ 0 ∷ 0 ∷ [] in
+    none_in words k (λ h. four (λ q. get_or words q 0 ≡ 0) refl refl refl refl (k / 64) (omega arith))

@@ -1,14 +1,7 @@
-use Rattle.std.proofs.Common.{◌/◌, ◌^◌, ◌<◌, get_or, arith, rules}
+use Rattle.std.proofs.Common.{◌/◌, ◌^◌, ◌<◌, get_or, rules}
 use Rattle.graph.specs.Members.{member}
-use Rattle.graph.proofs.Bits.{lowest_some, none_in, tz_set}
+use Rattle.graph.proofs.Bits.{lowest_some, none_in}
 use Rattle.graph.proofs.sets.MemberSet.lowest.Goals as goal
-
-pub overflow_cast-result-then-word-ne0 : goal.overflow_cast-result-then-word-ne0
-overflow_cast-result-then-word-ne0 c =
-    let word = get_or c.args.self.words c.loop-i.i 0 in
-    let small : word < 2 ^ 64 = search rules in
-    let some : 0 < word = search rules in
-    omega (arith, (tz_set 64 word some small).0)
 
 pub returns-then-word-ne0 : goal.returns-then-word-ne0
 unfolding member

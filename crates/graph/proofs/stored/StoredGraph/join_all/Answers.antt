@@ -1,27 +1,29 @@
-use Rattle.std.proofs.Common.{◌&&◌, ltb, sym, refl, ap, ◌∙◌}
-use Rattle.std.proofs.lemmas.Bool.{and_parts, ltb-true}
-use Rattle.graph.specs.Graphs.{IsGraph, members_in}
-use Rattle.graph.specs.Members.{member}
+use Rattle.std.proofs.Common.{ap, get_or-set_other, get_or-set_same, rules}
+use Rattle.graph.specs.Members.{member, nothing}
 use Rattle.graph.specs.Stored.{stored}
-use Rattle.graph.proofs.Joining.{joined_graph, of_size, with_all_same}
+use Rattle.graph.proofs.Joining.{joining_start, joining_more, joining_end, joined_graph, members_only}
 use Rattle.graph.proofs.stored.StoredGraph.join_all.Goals as goal
 
-pub invariant_of-self : goal.invariant_of-self
-invariant_of-self c =
-    let self = c.args.self.now in
-    let old : IsGraph self.count (stored self.rows) = record { few = self.few; symmetric = self.symmetric; irreflexive = self.irreflexive; within = self.within } in
-    let both = member c.intersection.result in
-    let G = joined_graph both (stored c.join_all.new.self) old
-    (λ k m. ltb-true k self.count (and_parts _ _ (sym (of_size c.args.set (member c.below-all.result) both self.count k (c.below-all.ensures k ∙ ap (λ n. ltb k 256 && ltb k n) c.size.ensures) (c.intersection.ensures k)) ∙ m)).1)
-    c.join_all.ensures in
-    record { few = G.few; symmetric = G.symmetric; irreflexive = G.irreflexive; within = G.within }
+pub loop-a-init : goal.loop-a-init
+loop-a-init c = record { long = search rules; joining = rw c.into_iter-a-iterator.ensures.into_iter_gives (joining_start _ _) }
 
-pub returns : goal.returns
-returns c =
-    let self = c.args.self.now in
-    let both = member c.intersection.result in
+pub loop-a-preserved : goal.loop-a-preserved
+unfolding stored
+loop-a-preserved c =
+    let rows = c.loop-a.rows in
+    let x = c.in-Some.a in
+    let row = c.union.result in
     record {
-      count = refl;
-      pairs = λ a b. c.join_all.ensures a b ∙ with_all_same both (members_in self.count (member c.args.set))
-          (λ k. of_size c.args.set (member c.below-all.result) both self.count k (c.below-all.ensures k ∙ ap (λ n. ltb k 256 && ltb k n) c.size.ensures) (c.intersection.ensures k)) (stored self.rows) a b;
+      long = search rules;
+      joining = joining_more _ (member c.remove.new.self) (member row) _ x c.in-Some.ensures.steps.0.0
+          c.in-Some.ensures.steps.1 c.remove.ensures c.union.ensures
+          (λ b. ap (λ s. member s b) (get_or-set_same rows x row nothing (search rules)))
+          (λ a b n. ap (λ s. member s b) (get_or-set_other rows x a row nothing n)) c.loop-a.invariant.joining;
     }
+
+pub invariant_of-self : goal.invariant_of-self
+invariant_of-self c = record {
+  lawful = joined_graph (member c.intersection-all.result) _ c.args.self.now.lawful
+      (members_only c.args.set (member c.below.result) (member c.intersection-all.result) c.size.result c.size.ensures c.below.ensures c.intersection-all.ensures)
+      (joining_end c.in-None.ensures.steps.0 c.loop-a.invariant.joining);
+}

@@ -1,7 +1,0 @@
-use Rattle.std.proofs.Common.{take}
-use Rattle.book.specs.Books.{ledger}
-use Rattle.book.specs.Runs.{LedgerOf}
-use Rattle.book.proofs.notes.Book.run.Given as goal
-
-abbrev pub invariant-loop-call : goal.invariant-loop-call
-invariant-loop-call l = LedgerOf (take l.call-index l.calls) (ledger l.book)

@@ -1,5 +1,0 @@
-use Rattle.table_files.proofs.field_end.Given as goal
-use Rattle.table_files.proofs.Ending.{InsideField}
-
-abbrev pub invariant-loop-i : goal.invariant-loop-i
-invariant-loop-i l = InsideField l.text l.start l.i l.reader

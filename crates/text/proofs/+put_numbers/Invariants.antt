@@ -1,5 +1,0 @@
-use Rattle.std.proofs.Common.{length}
-use Rattle.text.proofs.+put_numbers.Given as goal
-
-abbrev pub decreases-put_numbers : goal.decreases-put_numbers
-decreases-put_numbers l = length l.numbers.now
