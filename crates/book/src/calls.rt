@@ -26,7 +26,7 @@ pub enum Call<'a> {
     },
 }
 
-// No `Option` of a number: which of the two it is goes with the call.
+// No `Option` of a number: `Done` is the whole answer of a call that gives no number, and nothing is missing.
 /// What an accepted call answers: the number of a table or a row, or only that it is done.
 #[derive(Clone, Copy, PartialEq, Eq, Debug)]
 pub enum Answer {

@@ -11,6 +11,7 @@ pub(super) const MAX_SURENESS: u64 = 1_000_000_000;
 #[derive(Clone, Copy, PartialEq, Eq, Debug)]
 pub struct Row {
     pub table: usize,
+    // Four places and no list: the width is the table's, and stands there once.
     pub cells: [u32; 4],
     pub sureness: u64,
     pub struck: bool,

@@ -3,7 +3,7 @@ use Rattle.std.proofs.Common.{arith, ◌≡◌, ℕ, ◌<◌, Bool, true, false,
 use mathlib.Core.Path.{fun_ext}
 use Rattle.std.proofs.lemmas.Bool.Decides.{nat_tests}
 use Rattle.graph.specs.declared.answers.Split.{Split}
-use Rattle.graph.specs.Answers.{Splits, Only}
+use Rattle.graph.specs.Answers.{Splits}
 use Rattle.graph.specs.Finding.{FindsChain}
 use Rattle.graph.specs.Graphs.{IsGraph, complement}
 use Rattle.graph.specs.Splitting.{AtMostOne, Connected}
@@ -14,10 +14,6 @@ pub same_answer : (size : ℕ) (joined : ℕ → ℕ → Bool) {f g : ℕ → Bo
 same_answer size joined same r says = subst (λ set. Splits size joined set r) (fun_ext same) says
 
 module _ {set : ℕ → Bool} (first : ℕ) (others : ℕ → Bool) (has : set first ≡ true) (is : (k : ℕ) → others k ≡ (set k && not (eqb k first))) where
-  -- nothing besides the first
-  pub one_member : ((k : ℕ) → others k ≡ false) → Only set first
-  one_member none = record { has = has; no_other = λ y m. let gone = none y in grind (arith, nat_tests, is) }
-
   -- something besides the first
   pub two_members : (((k : ℕ) → others k ≡ false) → ⊥) → ¬ AtMostOne set
   two_members some one = some (λ k. let same = one k first in grind (arith, nat_tests, is))

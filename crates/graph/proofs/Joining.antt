@@ -72,7 +72,3 @@ module _ {size : ℕ} (set : MemberSet) (below both : ℕ → Bool) (n : ℕ) (e
 
   pub members_only : (x : ℕ) → both x ≡ true → x < size
   members_only x m = grind (arith, nat_tests, is_below, is_both)
-
-pub with_all_same : (f g : ℕ → Bool) → ((k : ℕ) → f k ≡ g k) → (joined : ℕ → ℕ → Bool) (a b : ℕ) → with_all f joined a b ≡ with_all g joined a b
-unfolding with_pairs
-with_all_same f g same joined a b = grind (arith, same)

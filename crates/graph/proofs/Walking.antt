@@ -1,10 +1,10 @@
 -- The walk to a connected part, and the list of all parts. Assumes nothing.
-use Rattle.std.proofs.Common.{◌≡◌, ℕ, ◌+◌, ◌<◌, ◌≤◌, Bool, true, false, not, ◌&&◌, ◌||◌, eqb, ◌⊎◌, Some, sym, refl, ◌∙◌, subst, inl, inr, ⊎_elim, arith}
+use Rattle.std.proofs.Common.{◌≡◌, ℕ, ◌+◌, ◌<◌, ◌≤◌, Bool, true, false, not, ◌&&◌, ◌||◌, eqb, ◌⊎◌, Some, sym, refl, ◌∙◌, subst, inl, inr, arith}
 use Rattle.std.proofs.lemmas.Bool.Decides.{nat_tests}
 use Rattle.std.proofs.lemmas.Bool.{false_from_ne_true, cases_eq, cases_Bool, both_ways}
 use Rattle.graph.specs.Members.{Lowest, tally}
 use Rattle.graph.specs.Graphs.{IsGraph}
-use Rattle.graph.specs.Splitting.{Reaches, here, onward, PartOf, ListsParts}
+use Rattle.graph.specs.Splitting.{Reaches, here, onward, PartOf}
 use Rattle.graph.proofs.Paths.{reached_in, stays, closed_is_part}
 use Rattle.graph.proofs.Tallies.{tally_le, tally_less}
 
@@ -156,11 +156,3 @@ module _ {joined : ℕ → ℕ → Bool} {left : ℕ → Bool} (x : ℕ) (found 
       ];
       room = let r = L.room in let s = listing_less in omega arith;
     }
-
-pub listing_end : {joined : ℕ → ℕ → Bool} {set left : ℕ → Bool} {count : ℕ} {part : ℕ → ℕ → Bool} → ((y : ℕ) → left y ≡ false) →
-    Listing joined set left count part → ListsParts joined set count part
-listing_end none L = record {
-  each = L.each;
-  every = λ x m. ⊎_elim (λ l. absurd (both_ways _ (none x) l)) (λ t. t) (L.every x m);
-  order = L.order;
-}

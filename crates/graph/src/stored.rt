@@ -10,7 +10,7 @@ use crate::sets::MemberSet;
 #[derive(Clone, Copy, PartialEq, Eq, Debug)]
 pub struct StoredGraph {
     count: usize,
-    // No list: each of 256 numbers has its row, that of no member an empty one.
+    // No list: each of 256 numbers has its row, and a number that is no member has an empty one.
     rows: [MemberSet; 256],
     ghost lawful: { IsGraph count (stored rows) },
 }

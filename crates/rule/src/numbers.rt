@@ -19,6 +19,7 @@ fn is_lawful(count: usize, number: u64) -> bool
     count <= MOST_DIGITS && number <= LARGEST
 }
 
+// No `from_str_radix`, which does not say at which digit a number gets too long or too large.
 // The number of a constant whose digits begin at a place. It is refused at the digit that makes it too long or too large.
 pub(super) fn number_of(digits: &[u8], at: usize) -> Result<u32, Refusal>
     requires { (AllDigits 10 digits.now) × (at + length digits.now < 2 ^ 64) }

@@ -7,7 +7,8 @@ use super::refusal::Refusal;
 use super::rules::{Atom, Term};
 use super::tokens::{Class, Token, run_of};
 
-// A text, and the place from which it is read on. Nothing of what is read here is read of table files, so no reader is shared.
+// A text, and the place from which it is read on. Not the walk over records of table files: that goes from field to field, this from token to
+// token, and no step is the same.
 #[derive(Drop)]
 pub(super) struct Reader<'a> {
     text: &'a [u8],

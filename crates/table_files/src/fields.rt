@@ -8,7 +8,7 @@ ghost use Rattle.table_files.specs.Tables.{Numeral, sure};
 
 use super::reader::{Class, Reader};
 
-// Where the raw bytes of a field stand in a text.
+// Where the raw bytes of a field stand in a text: by a rule of the project a plain record, and no slice.
 #[derive(Clone, Copy, PartialEq, Eq, Debug)]
 pub(super) struct FieldPlace {
     pub(super) start: usize,
@@ -54,7 +54,8 @@ fn unquoted(raw: &[u8]) -> &[u8]
     }
 }
 
-// A constant of a rule text has the same digits, but is refused at one of them.
+// No `from_str_radix`, which takes a sign and more than ten digits. Not shared with `rule`, whose constants are refused at one of their digits, and not
+// as a whole.
 // The number that 1 to 10 digits write, if 32 bits hold it.
 fn number(digits: &[u8]) -> Option<u32>
     requires { 0 < length digits.now }

@@ -33,6 +33,7 @@ impl RecordPlaces<'_> {
         self.fields += 1;
     }
 
+    // The error is a field's number and no kind: `judge` makes the place of it.
     // The numbers of the first five fields, of which the last is a sureness; or the first field, from 1, that breaks its rule.
     fn numbers(&self) -> Result<[u32; 5], usize>
         ensures { (values : Values) (rest : Bytes) (records : List Values) → Found values records self.now rest → length values ≤ 5 → Numbers values result }

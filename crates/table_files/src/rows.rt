@@ -7,6 +7,7 @@ use super::records::Records;
 /// The numbers of a row: its cells, 0 past the table's width, and its sureness.
 #[derive(Clone, Copy, PartialEq, Eq, Debug)]
 pub struct Row {
+    // Four places and no list: the width is the table's, and stands there once.
     pub cells: [u32; 4],
     pub sureness: u32,
 }

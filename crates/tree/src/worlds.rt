@@ -49,7 +49,7 @@ fn swapped<S: Scale>(part: (S, S)) -> (S, S)
     (fails, holds)
 }
 
-// The weights come as a caller has them: two lists by the rows' numbers.
+// Two lists and no list of pairs: they may have different lengths, which a list of pairs would forbid callers.
 /// Puts the pair of every node at its place: the summed weights of the worlds of its own rows where its formula holds, and of those
 /// where it fails. Answers the form's pair; never has no node, and gives nought and unit.
 pub fn evaluate<S: Scale>(layout: Layout, ins: &[S], outs: &[S], pairs: &mut [(S, S)]) -> (S, S)
