@@ -148,7 +148,7 @@ lawful_rows n (values ∷ rows) a b = ((a.0, b.0), lawful_rows n rows a.1 b.1)
 
 module _ (text : List ℕ) (short : length text ≤ 65536) (lawful : Lawful text) (header : RecordPlaces)
     (left : List ℕ) (found : (values : List (List ℕ)) (records : Rows) → File text (values ∷ records) → Found values records header left) (w : Option ℕ)
-    (width : (values : List (List ℕ)) (rest : List ℕ) (records : Rows) → Found values records header rest → Width values w) where
+    (width : (values : List (List ℕ)) (records : Rows) → Found values records header left → Width values w) where
   abbrev names : List (List ℕ)
   names = (header_of text lawful).0
 
@@ -164,11 +164,11 @@ module _ (text : List ℕ) (short : length text ≤ 65536) (lawful : Lawful text
   pub answer_header : w ≡ None → Answered text (Err (Header (place 1 header.fields)))
   answer_header e =
       answered text (Err (Header _))
-      (names, rows, reads, subst (Width names) e (width names left rows first), ap (place 1) first.fields)
+      (names, rows, reads, subst (Width names) e (width names rows first), ap (place 1) first.fields)
 
   module _ (n : ℕ) (e : w ≡ Some n) (counted : Result ℕ Place) (count : (rs : Rows) → Says left rs → RowCount header.fields rs counted) where
     abbrev lawful_header : LawfulHeader names × (n + 1 ≡ length names)
-    lawful_header = subst (Width names) e (width names left rows first)
+    lawful_header = subst (Width names) e (width names rows first)
 
     abbrev row_count : RowCount (length names) rows counted
     row_count = subst (λ m. RowCount m rows counted) first.fields (count rows first.rest)

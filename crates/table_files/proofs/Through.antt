@@ -45,10 +45,11 @@ module _ (P : List (List ℕ) → Type 0) (from : Records) (count : ℕ) (rows :
     pub through_more : P (get_or rows count []) → Through P (rest_of to) (count + 1) rows
     through_more p = record { inside = omega (arith, row_there); says = row_found.rest; kept = below_more (λ k. P (get_or rows k [])) count h.kept p }
 
-  pub through_all : rest_of from ≡ [] → count ≡ length rows
-  through_all e =
-      let d : drop count rows ≡ [] = subst (λ t. Says t (drop count rows)) e h.says in
-      omega (arith, length-drop count rows, ap length d, h.inside)
+-- at the end of the text all are walked
+pub through_all : (P : List (List ℕ) → Type 0) (left : List ℕ) (count : ℕ) (rows : List (List (List ℕ))) → Through P left count rows → left ≡ [] → count ≡ length rows
+through_all P left count rows h e =
+    let d : drop count rows ≡ [] = subst (λ t. Says t (drop count rows)) e h.says in
+    omega (arith, length-drop count rows, ap length d, h.inside)
 
 -- each record passes a test, or the first that does not
 
@@ -92,14 +93,20 @@ judged_checked {Post} {rows} {answer} h few right = by_answer answer h.answer
 
 module _ (n : ℕ) (walk : Rows) (rows : List (List (List ℕ))) (h : Ahead n walk rows) where
   module _ (r : RecordPlaces) (to : Records) (step : RecordStep walk.records (Some r) to) (o : Result Row ℕ)
-      (row : (values : List (List ℕ)) (rest : List ℕ) (records : List (List (List ℕ))) → Found values records r rest → length values ≤ 5 → RowRead values o) where
+      (row : (values : List (List ℕ)) (records : List (List (List ℕ))) → Found values records r (rest_of to) → length values ≤ 5 → RowRead values o) where
     first_row : (values : List (List ℕ)) × (others : List (List (List ℕ))) × (rows ≡ values ∷ others) × Found values others r (rest_of to) × RowRead values o
         × LawfulRow n values × AllByRecursion (LawfulRow n) others
     first_row =
         let k = says_file (rest_of walk.records) rows step.0 h.0 in
         let f = step.1 k.0 k.1 k.3 in
         let s = subst (AllByRecursion (LawfulRow n)) k.2 h.3 in
-        (k.0, k.1, k.2, f, row k.0 (rest_of to) k.1 f (omega (arith, s.0.0, h.2)), s.0, s.1)
+        (k.0, k.1, k.2, f, row k.0 k.1 f (omega (arith, s.0.0, h.2)), s.0, s.1)
+
+    pub walked_wrong : (f : ℕ) → o ≡ Err f → ⊥
+    walked_wrong f e =
+        let k = first_row in
+        let w = subst (RowRead k.0) e k.4 in
+        w.2.1 (k.5.1 w.0 w.2.0)
 
     pub walked : (after : Rows) → after.records ≡ to → Walked n rows (result_ok o) after
     walked after t = by_answer o refl
@@ -107,7 +114,4 @@ module _ (n : ℕ) (walk : Rows) (rows : List (List (List ℕ))) (h : Ahead n wa
         by_answer : (a : Result Row ℕ) → o ≡ a → Walked n rows (result_ok a) after
         by_answer (Ok x) e =
             let k = first_row in (k.0, k.1, k.2, (subst (RowRead k.0) e k.4).1, (subst (λ w. Says (rest_of w) k.1) (sym t) k.3.rest, h.1, h.2, k.6))
-        by_answer (Err f) e =
-            let k = first_row in
-            let w = subst (RowRead k.0) e k.4 in
-            absurd (w.2.1 (k.5.1 w.0 w.2.0))
+        by_answer (Err f) e = absurd (walked_wrong f e)

@@ -143,7 +143,7 @@ pub record Partly (values : List (List ℕ)) (records : List (List (List ℕ))) 
 
 -- the walk through the record that starts at a byte, up to the end of a field
 pub record Going (text : List ℕ) (start at : ℕ) (x : RecordPlaces) : Type 0 where
-  pub few : x.fields ≤ at + 1
+  pub few : x.fields + start ≤ at + 1
   pub moves : start ≤ at
   pub text_is : x.text.now ≡ text
   pub room : length x.places ≡ 5

@@ -30,7 +30,7 @@ returns-in_err-width c =
     let (n, f) = ok_or_failed c.width.result _ _ c.ok_or.ensures.value _ c.in_err-width.was in
     rw (p.1, p.2, f)
     (answer_header c.args.text.now (omega (arith, c.if-text-gt65536.false)) (lawful (goal.at.returns-in_err-width c).In_ok-map_err) c.record-header.result _ (rw c.new-records.ensures at c.record-header.ensures.found)
-    c.width.result c.width.ensures n)
+    c.width.result (λ v r. c.width.ensures v _ r) n)
 
 wide : (c : In_ok-width) → c.width.result ≡ Some c.in_ok-width.width
 wide c = c.ok_or.ensures.ok_part ∙ ap result_ok c.in_ok-width.was
@@ -41,7 +41,7 @@ returns-in_err-count c =
     let (place, e, f) = map_failed FieldCount _ _ c.map_err-2.ensures.cases _ c.in_err-count.was in
     rw (p.1, p.2, f)
     (answer_count c.args.text.now (omega (arith, c.if-text-gt65536.false)) (lawful (goal.at.returns-in_err-count c).In_ok-map_err) c.record-header.result _ (rw c.new-records.ensures at c.record-header.ensures.found)
-    c.width.result c.width.ensures _ (wide (goal.at.returns-in_err-count c).In_ok-width) c.count_rows.result c.count_rows.ensures place e)
+    c.width.result (λ v r. c.width.ensures v _ r) _ (wide (goal.at.returns-in_err-count c).In_ok-width) c.count_rows.result c.count_rows.ensures place e)
 
 counted : (c : In_ok-count) → c.count_rows.result ≡ Ok c.in_ok-count.count
 counted c = map_went FieldCount _ _ c.map_err-2.ensures.cases _ c.in_ok-count.was
@@ -53,11 +53,11 @@ returns-in_err-map_err-2 c =
     let at = goal.at.returns-in_err-map_err-2 c in
     rw (p.1, p.2, f)
     (answer_field c.args.text.now (omega (arith, c.if-text-gt65536.false)) (lawful at.In_ok-map_err) c.record-header.result _ (rw c.new-records.ensures at c.record-header.ensures.found)
-    c.width.result c.width.ensures _ (wide at.In_ok-width) c.count_rows.result c.count_rows.ensures _ (counted at.In_ok-count) c.check_rows.result c.check_rows.ensures place e)
+    c.width.result (λ v r. c.width.ensures v _ r) _ (wide at.In_ok-width) c.count_rows.result c.count_rows.ensures _ (counted at.In_ok-count) c.check_rows.result c.check_rows.ensures place e)
 
 pub returns : goal.returns
 returns c =
     let at = goal.at.returns c in
     answer_file c.args.text.now (omega (arith, c.if-text-gt65536.false)) (lawful at.In_ok-map_err) c.record-header.result _ (rw c.new-records.ensures at c.record-header.ensures.found)
-    c.width.result c.width.ensures _ (wide at.In_ok-width) c.count_rows.result c.count_rows.ensures _ (counted at.In_ok-count) c.check_rows.result c.check_rows.ensures
+    c.width.result (λ v r. c.width.ensures v _ r) _ (wide at.In_ok-width) c.count_rows.result c.count_rows.ensures _ (counted at.In_ok-count) c.check_rows.result c.check_rows.ensures
     _ (map_went Field _ _ c.map_err-3.ensures.cases _ c.in_ok-map_err-2.was) _ refl refl (ap rest_of c.new.ensures)

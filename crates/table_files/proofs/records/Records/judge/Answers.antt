@@ -30,5 +30,5 @@ loop-record-preserved g c =
 pub returns : goal.returns
 returns g c = λ rows s.
     let t = c.loop-record.invariant.3 rows s in
-    let all = through_all _ c.loop-record.record-iterator c.loop-record.count rows t c.in-None.ensures.steps in
+    let all = through_all _ _ c.loop-record.count rows t c.in-None.ensures.steps in
     record { answer = (all, λ k l. t.kept k (omega (arith, all))) }
