@@ -1,5 +1,5 @@
 -- Texts written one after the other are one text.
-use Rattle.std.proofs.Common.{◌≡◌, ℕ, ◌+◌, ◌-◌, ◌^◌, ◌<◌, ◌≤◌, List, [], ◌∷◌, ◌++◌, length, get_or, take, drop, decimal, sym, refl, ap, ◌∙◌, ap₂, append_assoc, append-nil, add-one, drop-cons, arith, length-append}
+use Rattle.std.proofs.Common.{◌≡◌, ℕ, suc, ◌+◌, ◌-◌, ◌*◌, ◌^◌, ◌<◌, ◌≤◌, List, [], ◌∷◌, ◌++◌, length, get_or, take, drop, decimal, sym, refl, ap, ◌∙◌, ap₂, append_assoc, append-nil, add-one, drop-cons, arith, length-append}
 use Rattle.std.proofs.Math.ListN.{drop_of_length-le}
 use lib.Seq.{paste}
 use borrow.Rule.Slice.PartMut.{put_mid}
@@ -33,9 +33,16 @@ copied out part bytes at k e l =
 pub then : (out out' out'' : List ℕ) (at at' : ℕ) (s t : List ℕ) → at ≤ length out → out' ≡ over out at s → at' ≡ at + length s → out'' ≡ over out' at' t → out'' ≡ over out at (s ++ t)
 then out out' out'' at at' s t h e f g = g ∙ ap₂ (λ x n. over x n t) e f ∙ over_over out at s t h
 
--- a number of 64 bits takes at most 20 digits
+-- a number of 64 bits takes at most 20 digits, and with a byte behind it 21
 pub digits_short : (n : ℕ) → n < 2 ^ 64 → length (decimal n) ≤ 20
 digits_short n h = length-decimal-le 20 n (omega arith) (omega arith) h
+
+pub numbers_short : (gap : ℕ) (ns : List ℕ) → ((i : ℕ) → i < length ns → get_or ns i 0 < 2 ^ 64) → length (numbers_text gap ns) ≤ 21 * length ns
+numbers_short gap [] h = omega arith
+numbers_short gap (n ∷ []) h = omega (arith, digits_short n (h 0 (omega arith)))
+numbers_short gap (n ∷ m ∷ ns) h =
+    let rest = numbers_short gap (m ∷ ns) (λ i l. h (suc i) (omega arith)) in
+    omega (arith, length-append (decimal n) (gap ∷ numbers_text gap (m ∷ ns)), digits_short n (h 0 (omega arith)))
 
 -- two texts, one behind the other
 pub wrote_both : {a b c : Writer} {s t : List ℕ} → Wrote a b s → Wrote b c t → a.at ≤ room_of a → Wrote a c (s ++ t)
