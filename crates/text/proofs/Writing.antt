@@ -1,5 +1,5 @@
 -- Texts written one after the other are one text.
-use Rattle.std.proofs.Common.{◌≡◌, ℕ, suc, ◌+◌, ◌-◌, ◌*◌, ◌^◌, ◌<◌, ◌≤◌, List, [], ◌∷◌, ◌++◌, length, get_or, take, drop, decimal, sym, refl, ap, ◌∙◌, ap₂, append_assoc, append-nil, add-one, drop-cons, arith, length-append}
+use Rattle.std.proofs.Common.{◌≡◌, ℕ, suc, ◌+◌, ◌-◌, ◌*◌, ◌^◌, ◌<◌, ◌≤◌, List, [], ◌∷◌, ◌++◌, length, get_or, take, drop, decimal, sym, refl, ap, ◌∙◌, ap₂, append_assoc, append-nil, add-zero, add-one, drop-cons, arith, length-append, take-append-drop}
 use Rattle.std.proofs.Math.ListN.{drop_of_length-le}
 use lib.Seq.{paste}
 use borrow.Rule.Slice.PartMut.{put_mid}
@@ -7,7 +7,8 @@ use Rattle.std.proofs.lemmas.Slice.{put_mid-paste, first_rest}
 use Rattle.std.proofs.lemmas.List.Edits.{paste_all, paste-paste}
 use Rattle.std.proofs.lemmas.Fmt.{length-decimal-le}
 use Rattle.text.specs.Over.{over, numbers_text}
-use Rattle.text.specs.Writers.{Wrote, room_of}
+use Rattle.text.specs.Writers.{room_of}
+use Rattle.text.specs.Writers as writers
 use Rattle.text.specs.declared.Writer.{Writer}
 
 over_paste : (out : List ℕ) (at : ℕ) (s : List ℕ) → over out at s ≡ paste out at s (length s)
@@ -33,6 +34,24 @@ copied out part bytes at k e l =
 pub then : (out out' out'' : List ℕ) (at at' : ℕ) (s t : List ℕ) → at ≤ length out → out' ≡ over out at s → at' ≡ at + length s → out'' ≡ over out' at' t → out'' ≡ over out at (s ++ t)
 then out out' out'' at at' s t h e f g = g ∙ ap₂ (λ x n. over x n t) e f ∙ over_over out at s t h
 
+-- a text was written into memory from a place on, and ends at another
+pub record Wrote (before : List ℕ) (at : ℕ) (s : List ℕ) (out : List ℕ) (end : ℕ) : Type 0 where
+  pub bytes : out ≡ over before at s
+  pub place : end ≡ at + length s
+
+pub wrote_none : (before : List ℕ) (at : ℕ) → at ≤ length before → Wrote before at [] before at
+wrote_none before at l =
+    record { bytes = sym (ap (λ n. take at before ++ drop n before) (add-zero at) ∙ take-append-drop at before); place = sym (add-zero at) }
+
+-- a text written behind it
+pub wrote_more : (before : List ℕ) (at : ℕ) (s out : List ℕ) (end : ℕ) (t out' : List ℕ) (end' : ℕ) → at ≤ length before → Wrote before at s out end →
+    out' ≡ over out end t → end' ≡ end + length t → Wrote before at (s ++ t) out' end'
+wrote_more before at s out end t out' end' l h e f =
+    record {
+      bytes = then before out out' at end s t l h.bytes h.place e;
+      place = omega (arith, h.place, length-append s t);
+    }
+
 -- a number of 64 bits takes at most 20 digits, and with a byte behind it 21
 pub digits_short : (n : ℕ) → n < 2 ^ 64 → length (decimal n) ≤ 20
 digits_short n h = length-decimal-le 20 n (omega arith) (omega arith) h
@@ -45,7 +64,7 @@ numbers_short gap (n ∷ m ∷ ns) h =
     omega (arith, length-append (decimal n) (gap ∷ numbers_text gap (m ∷ ns)), digits_short n (h 0 (omega arith)))
 
 -- two texts, one behind the other
-pub wrote_both : {a b c : Writer} {s t : List ℕ} → Wrote a b s → Wrote b c t → a.at ≤ room_of a → Wrote a c (s ++ t)
+pub wrote_both : {a b c : Writer} {s t : List ℕ} → writers.Wrote a b s → writers.Wrote b c t → a.at ≤ room_of a → writers.Wrote a c (s ++ t)
 wrote_both {a} {b} {c} {s} {t} f g l =
     record {
       memory = g.memory ∙ f.memory;
@@ -55,7 +74,7 @@ wrote_both {a} {b} {c} {s} {t} f g l =
     }
 
 -- an equal text
-pub wrote_as : {a b : Writer} {s t : List ℕ} → s ≡ t → Wrote a b s → Wrote a b t
+pub wrote_as : {a b : Writer} {s t : List ℕ} → s ≡ t → writers.Wrote a b s → writers.Wrote a b t
 wrote_as {a} {b} e w = rw (← e) w
 
 -- numbers in decimal digits, each with a byte before it
@@ -70,7 +89,7 @@ numbers_text-behind gap n (m ∷ ns) = ap (λ x. decimal n ++ (gap ∷ x)) (numb
 -- of the text of some numbers the first is written, and of the rest those before a place
 pub record Begun (gap : ℕ) (numbers rest : List ℕ) (i : ℕ) (start now : Writer) : Type 0 where
   pub done : List ℕ
-  pub wrote : Wrote start now done
+  pub wrote : writers.Wrote start now done
   pub left : numbers_text gap numbers ≡ done ++ behind gap (drop i rest)
 
 first_left : (gap : ℕ) (numbers : List ℕ) → 0 < length numbers
@@ -82,7 +101,7 @@ pub first_room : (gap : ℕ) (numbers : List ℕ) (start : Writer) → 0 < lengt
 first_room gap numbers start h r =
     omega (arith, ap length (first_left gap numbers h), length-append (decimal (get_or numbers 0 0)) (behind gap (take (length numbers - 1) (drop 1 numbers))), r)
 
-pub begun_first : {gap : ℕ} {numbers : List ℕ} {start now : Writer} → 0 < length numbers → Wrote start now (decimal (get_or numbers 0 0))
+pub begun_first : {gap : ℕ} {numbers : List ℕ} {start now : Writer} → 0 < length numbers → writers.Wrote start now (decimal (get_or numbers 0 0))
     → Begun gap numbers (take (length numbers - 1) (drop 1 numbers)) 0 start now
 begun_first {gap} {numbers} h w = record {
   done = decimal (get_or numbers 0 0);
@@ -104,7 +123,7 @@ begun_room {gap} {numbers} {rest} {i} b h r =
     omega (arith, e, b.wrote.place, b.wrote.room, length-append (b.done ++ (gap ∷ decimal (get_or rest i 0))) (behind gap (drop (i + 1) rest)), length-append b.done (gap ∷ decimal (get_or rest i 0)), r)
 
 pub begun_more : {gap : ℕ} {numbers rest : List ℕ} {i : ℕ} {start now mid next : Writer} → Begun gap numbers rest i start now → i < length rest
-    → Wrote now mid (gap ∷ []) → Wrote mid next (decimal (get_or rest i 0)) → start.at + length (numbers_text gap numbers) ≤ room_of start
+    → writers.Wrote now mid (gap ∷ []) → writers.Wrote mid next (decimal (get_or rest i 0)) → start.at + length (numbers_text gap numbers) ≤ room_of start
     → Begun gap numbers rest (i + 1) start next
 begun_more {gap} {numbers} {rest} {i} b h f g r =
     let k = begun_room b h r in
@@ -114,6 +133,6 @@ begun_more {gap} {numbers} {rest} {i} b h f g r =
       left = next_left gap numbers rest b.done i b.left h;
     }
 
-pub begun_all : {gap : ℕ} {numbers rest : List ℕ} {i : ℕ} {start now : Writer} → Begun gap numbers rest i start now → length rest ≤ i → Wrote start now (numbers_text gap numbers)
+pub begun_all : {gap : ℕ} {numbers rest : List ℕ} {i : ℕ} {start now : Writer} → Begun gap numbers rest i start now → length rest ≤ i → writers.Wrote start now (numbers_text gap numbers)
 begun_all {gap} {numbers} {rest} {i} b h =
     wrote_as (sym (b.left ∙ ap (λ xs. b.done ++ behind gap xs) (drop_of_length-le rest h) ∙ append-nil b.done)) b.wrote
