@@ -1,5 +1,7 @@
-use Rattle.std.proofs.Common.{◌≡◌, ◌+◌, ◌/◌, ◌%◌, ◌^◌, ◌<◌, [], ◌∷◌, length, decimal, sym, ap, arith, length-append, rules}
+use Rattle.std.proofs.Common.{◌≡◌, ℕ, ◌+◌, ◌/◌, ◌%◌, ◌^◌, ◌<◌, [], ◌∷◌, length, decimal, sym, ap, arith, length-append, rules}
 use Rattle.std.proofs.lemmas.Fmt.{decimal_digit, decimal_step}
+use Rattle.text.specs.Writers.{Wrote}
+use Rattle.text.specs.declared.Writer.{Writer}
 use Rattle.text.proofs.Writing.{wrote_both, wrote_as}
 use Rattle.text.proofs.Writer.+put_number.Goals.{then-number-ge10, else-number-ge10}
 use Rattle.text.proofs.Writer.+put_number.Goals as goal
@@ -20,6 +22,10 @@ put-requires t c =
       | else-number-ge10 w ↦ rw w.self-is (omega (arith, ap length (decimal_digit c.args.number w.if-number-ge10.false)))
     ]
 
+-- an equal digit
+digit_as : {a b : Writer} {x y : ℕ} → Wrote a b (x ∷ []) → x ≡ y → Wrote a b (y ∷ [])
+digit_as w e = rw (← e) w
+
 pub returns : goal.returns
 returns t c =
     let n : c.args.number < 2 ^ 64 = search rules in
@@ -28,10 +34,9 @@ returns t c =
       | then-number-ge10 w ↦
           let e = decimal_step c.args.number w.if-number-ge10.true n in
           let q = rw w.self-is at p in
-          wrote_as (sym e) (wrote_both w.put_number.ensures q (omega arith))
+          wrote_as (sym e) (wrote_both w.put_number.ensures (digit_as q (omega arith)) (omega arith))
       | else-number-ge10 w ↦
           let e = decimal_digit c.args.number w.if-number-ge10.false in
           let q = rw w.self-is at p in
-          let d : c.args.number % 10 ≡ c.args.number = omega arith in
-          wrote_as (sym e) (rw d at q)
+          wrote_as (sym e) (digit_as q (omega arith))
     ]
