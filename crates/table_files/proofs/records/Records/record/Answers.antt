@@ -34,4 +34,4 @@ returns-clause-found c = λ values records fl.
     let lt : at < length text = here.0 in
     let comma : get_or text at 0 ≡ COMMA = here.1 in
     search rules in
-    going_found text _ at c.loop-self.record h.1 none c.min-self.result (drop_least text (at + 2) c.min-self.result c.min-self.ensures) values records (rw (ap (λ t. t.now) h.0) fl)
+    going_found text _ at c.loop-self.record h.1 none c.min-self.result (drop_least text (at + 2) c.min-self.result (omega arith)) values records (rw (ap (λ t. t.now) h.0) fl)
