@@ -3,7 +3,7 @@ use Rattle.std.proofs.Common.{◌≡◌, ℕ, ◌<◌, ◌≤◌, Bool, true, fa
 use Rattle.std.proofs.lemmas.Bool.{false_from_ne_true, cases_eq, cases_order, cases_Bool, both_ways}
 use Rattle.graph.specs.Answers.{FallsCoapart}
 use Rattle.graph.specs.Graphs.{IsGraph, complement}
-use Rattle.graph.specs.Laws.{co_from}
+use Rattle.graph.specs.Laws.{co_from, complement_graph}
 use Rattle.graph.specs.Members.{tally}
 use Rattle.graph.specs.Splitting.{Reaches, onward, Connected, ListsParts, FallsApart}
 use Rattle.graph.proofs.Paths.{reached_in, and_then, back}
@@ -72,9 +72,9 @@ module _ {size : ℕ} {joined : ℕ → ℕ → Bool} (G : IsGraph size joined) 
           tally_less (part i) set x 256 (λ y p. from_set i y l p) (omega arith) (false_from_ne_true _ (λ p. o.2 (once i j x l o.1 p t.1.0))) m
 
 -- in the complement: members of different parts are joined in the graph
-pub falls_coapart : {size : ℕ} {joined : ℕ → ℕ → Bool} → IsGraph size joined → {set : ℕ → Bool} {count : ℕ} {part : ℕ → ℕ → Bool} →
+pub coapart : {size : ℕ} {joined : ℕ → ℕ → Bool} → IsGraph size joined → {set : ℕ → Bool} {count : ℕ} {part : ℕ → ℕ → Bool} →
     ((x : ℕ) → set x ≡ true → x < size) → FallsApart (complement size joined) set count part → FallsCoapart size joined set count part
-falls_coapart {size} {joined} G among F =
+coapart {size} {joined} G among F =
     record {
       apart = F;
       joined_across = λ i j x y li lj n px py. elim (cases_Bool (joined x y)) [
@@ -83,3 +83,8 @@ falls_coapart {size} {joined} G among F =
             (co_from size joined x y (among x (F.among i x li px)) (among y (F.among j y lj py)) (λ e. n (F.once i j y li lj (rw e at px) py)) f))
       ];
     }
+
+-- two parts or more of the complement
+pub falls_coapart : {size : ℕ} {joined : ℕ → ℕ → Bool} → IsGraph size joined → {set : ℕ → Bool} {count : ℕ} {part : ℕ → ℕ → Bool} →
+    ListsParts (complement size joined) set count part → ((x : ℕ) → set x ≡ true → x < size) → 2 ≤ count → FallsCoapart size joined set count part
+falls_coapart G L among many = coapart G among (falls_apart (complement_graph G) L among many)

@@ -1,6 +1,6 @@
 -- Rows of neighbours, and joining all of a set. Assumes nothing.
-use Rattle.std.proofs.Common.{◌≡◌, ℕ, zero, suc, ◌<◌, ◌≤◌, Bool, true, false, not, ◌&&◌, ◌||◌, eqb, ltb, ◌≢◌, [], get_or, replicate, sym, refl, ◌∙◌, inl, inr, arith}
-use Rattle.std.proofs.lemmas.Bool.{cases_eq, both_ways}
+use Rattle.std.proofs.Common.{◌≡◌, ℕ, zero, suc, ◌<◌, ◌≤◌, Bool, true, false, not, ◌&&◌, ◌||◌, eqb, ltb, ◌≢◌, ◌⊎◌, [], get_or, replicate, sym, refl, ◌∙◌, inl, inr, arith}
+use Rattle.std.proofs.lemmas.Bool.{cases_eq, cases_Bool, both_ways}
 use Rattle.std.proofs.lemmas.Bool.Decides.{nat_tests}
 use Rattle.graph.specs.declared.sets.MemberSet.{MemberSet}
 use Rattle.graph.specs.Members.{member, nothing}
@@ -23,6 +23,24 @@ unjoined_graph size joined few none = record {
   irreflexive = λ a. none a a;
   within = λ a b j. absurd (both_ways _ (none a b) j);
 }
+
+-- what with-pairs adds
+pub pairs_cases : (first second : ℕ → Bool) (joined : ℕ → ℕ → Bool) (a b : ℕ) → with_pairs first second joined a b ≡ true →
+    (joined a b ≡ true) ⊎ ((first a ≡ true) × (second b ≡ true) × (a ≢ b))
+unfolding with_pairs
+pairs_cases first second joined a b j = elim (cases_Bool (joined a b)) [
+  | inl old ↦ inl old
+  | inr new ↦ inr (grind (arith, nat_tests), grind (arith, nat_tests), λ e. grind (arith, nat_tests))
+]
+
+pub pairs_old : (first second : ℕ → Bool) (joined : ℕ → ℕ → Bool) (a b : ℕ) → joined a b ≡ true → with_pairs first second joined a b ≡ true
+unfolding with_pairs
+pairs_old first second joined a b j = grind arith
+
+pub pairs_new : (first second : ℕ → Bool) (joined : ℕ → ℕ → Bool) (a b : ℕ) → first a ≡ true → second b ≡ true → a ≢ b →
+    with_pairs first second joined a b ≡ true
+unfolding with_pairs
+pairs_new first second joined a b fa sb n = grind (arith, nat_tests)
 
 -- the loop that joins a set: what is left is of the set, and the others of the set have all their new neighbours
 pub record Joining (set left : ℕ → Bool) (before after : ℕ → ℕ → Bool) : Type 0 where

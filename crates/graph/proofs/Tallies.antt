@@ -81,6 +81,10 @@ tally_ones (suc k) word h =
     low_digit (suc zero) h = refl
     low_digit (suc (suc d)) h = absurd (let z : ⊥ = omega arith in z)
 
+-- no more than 64
+pub ones_few : (word : ℕ) → word < 2 ^ 64 → ones word ≤ 64
+ones_few word h = let few = tally_le (has_bit word) 64 in let is = tally_ones 64 word h in omega arith
+
 -- number j of word i
 in_word : (words : List ℕ) (i j k : ℕ) → k ≡ j + 64 * i → i < 4 → j < 64 → in_set words k ≡ has_bit (get_or words i 0) j
 in_word words i j k e row l =
@@ -89,13 +93,9 @@ in_word words i j k e row l =
     rw (lt-ltb k 256 (omega arith)) (ap (λ r. has_bit (get_or words r 0) (k % 64)) q ∙ ap (has_bit (get_or words i 0)) m)
 
 -- four words have as many numbers as set bits
-pub tally_words : (words : List ℕ) → length words ≡ 4 → ((i : ℕ) → i < 4 → get_or words i 0 < 2 ^ 64) → sum_by ones words ≡ tally (in_set words) 256
-tally_words [] long small = omega arith
-tally_words (a ∷ []) long small = omega arith
-tally_words (a ∷ b ∷ []) long small = omega arith
-tally_words (a ∷ b ∷ c ∷ []) long small = omega arith
-tally_words (a ∷ b ∷ c ∷ d ∷ []) long small =
-    let words : List ℕ = a ∷ b ∷ c ∷ d ∷ [] in
+pub tally_words : (words : List ℕ) → ((i : ℕ) → i < 4 → get_or words i 0 < 2 ^ 64) →
+    tally (in_set words) 256 ≡ ones (get_or words 0 0) + ones (get_or words 1 0) + ones (get_or words 2 0) + ones (get_or words 3 0)
+tally_words words small =
     let f : ℕ → Bool = in_set words in
     let s = word (λ j. j) 0 (omega arith) (λ j. omega arith) in
     let t = word (λ j. j + 64) 1 (omega arith) (λ j. omega arith) in
@@ -106,11 +106,23 @@ tally_words (a ∷ b ∷ c ∷ d ∷ []) long small =
     let r = tally_split (λ j. f (j + 64 + 64)) 64 64 in
     omega arith
   where
-    word : (place : ℕ → ℕ) (i : ℕ) → i < 4 → ((j : ℕ) → place j ≡ j + 64 * i) → tally (λ j. in_set (a ∷ b ∷ c ∷ d ∷ []) (place j)) 64 ≡ ones (get_or (a ∷ b ∷ c ∷ d ∷ []) i 0)
+    word : (place : ℕ → ℕ) (i : ℕ) → i < 4 → ((j : ℕ) → place j ≡ j + 64 * i) → tally (λ j. in_set words (place j)) 64 ≡ ones (get_or words i 0)
     word place i row e =
-        tally_same (λ j. in_set (a ∷ b ∷ c ∷ d ∷ []) (place j)) (has_bit (get_or (a ∷ b ∷ c ∷ d ∷ []) i 0)) 64 (λ j l. in_word (a ∷ b ∷ c ∷ d ∷ []) i j (place j) (e j) row l)
-        ∙ tally_ones 64 (get_or (a ∷ b ∷ c ∷ d ∷ []) i 0) (small i row)
-tally_words (a ∷ b ∷ c ∷ d ∷ e ∷ more) long small = absurd (omega arith)
+        tally_same (λ j. in_set words (place j)) (has_bit (get_or words i 0)) 64 (λ j l. in_word words i j (place j) (e j) row l)
+        ∙ tally_ones 64 (get_or words i 0) (small i row)
+
+-- the sum over a list of four
+pub sum_four : (f : ℕ → ℕ) (xs : List ℕ) → length xs ≡ 4 → sum_by f xs ≡ f (get_or xs 0 0) + f (get_or xs 1 0) + f (get_or xs 2 0) + f (get_or xs 3 0)
+sum_four f [] long = absurd (omega arith)
+sum_four f (a ∷ []) long = absurd (omega arith)
+sum_four f (a ∷ b ∷ []) long = absurd (omega arith)
+sum_four f (a ∷ b ∷ c ∷ []) long = absurd (omega arith)
+sum_four f (a ∷ b ∷ c ∷ d ∷ []) long = omega arith
+sum_four f (a ∷ b ∷ c ∷ d ∷ e ∷ more) long = absurd (omega arith)
+
+-- the same as the sum over the words
+pub tally_sum : (words : List ℕ) → length words ≡ 4 → ((i : ℕ) → i < 4 → get_or words i 0 < 2 ^ 64) → sum_by ones words ≡ tally (in_set words) 256
+tally_sum words long small = sum_four ones words long ∙ sym (tally_words words small)
 
 -- a member set that loses one of its numbers is smaller
 pub tally_removed : (f g : ℕ → Bool) (x : ℕ) → x < 256 → f x ≡ true → ((k : ℕ) → g k ≡ (f k && not (eqb k x))) → tally g 256 < tally f 256

@@ -58,8 +58,11 @@ module _ {before : Reader} {s : Bor (List ℕ)} {at : ℕ} {after : Reader} (h :
   pub constant_digits : AllDigits 10 s.now
   constant_digits = subst (AllDigits 10) (sym h.begins.1) (run_digits (drop at text))
 
-  pub constant_inside : at + length s.now ≤ length text
-  constant_inside = omega (arith, h.begins.0.inside, long, prefix_len-le-length (λ b. is (class b) Digit) (drop at text), length-drop at text)
+  pub constant_inside : (before.at < at + length s.now) × (at + length s.now ≤ length text)
+  constant_inside = (
+    omega (arith, h.begins.0.here, long, run_some Digit text at h.begins.0.inside h.begins.0.is),
+    omega (arith, h.begins.0.inside, long, prefix_len-le-length (λ b. is (class b) Digit) (drop at text), length-drop at text),
+  )
 
   abbrev rest : List ℕ
   rest = drop (at + length s.now) text
@@ -78,7 +81,7 @@ module _ {before : Reader} {s : Bor (List ℕ)} {at : ℕ} {after : Reader} (h :
   constant_ok n f =
       let end = at + length s.now in
       record {
-        further = record { text = h.moved.text; place = omega (arith, h.begins.0.here, h.moved.place, long, run_some Digit text at h.begins.0.inside h.begins.0.is) };
+        further = record { text = h.moved.text; place = omega (arith, h.moved.place, constant_inside.0) };
         fit = refl;
         answers = λ d k ts.
             rw f.0 (begun d k ts

@@ -1,11 +1,11 @@
 use Rattle.std.proofs.lemmas.Bool.{both_ways}
 use Rattle.graph.specs.Members.{member}
-use Rattle.graph.proofs.Apart.{falls_coapart}
+use Rattle.graph.proofs.Apart.{coapart}
 use Rattle.graph.proofs.Deciding.{two_members, finds}
 use Rattle.graph.proofs.splits.split_members.Goals as goal
 
 pub returns-in-Some-two_or_more-2 : goal.returns-in-Some-two_or_more-2
-returns-in-Some-two_or_more-2 g c = falls_coapart (g.met.G.Graph.laws c.args.graph.now) c.requires c.in-Some-two_or_more-2.ensures
+returns-in-Some-two_or_more-2 g c = coapart (g.met.G.Graph.laws c.args.graph.now) c.requires c.in-Some-two_or_more-2.ensures
 
 pub unwrap-requires : goal.unwrap-requires
 unwrap-requires g c =

@@ -4,7 +4,7 @@ use Rattle.rule.proofs.Terms.{variable_read, constant_digits, constant_inside, c
 use Rattle.rule.proofs.reader.Reader.term.Goals as goal
 
 pub number_of-requires : goal.number_of-requires
-number_of-requires c = (constant_digits c.in-Constant.ensures, omega (arith, constant_inside c.in-Constant.ensures))
+number_of-requires c = (constant_digits c.in-Constant.ensures, omega (arith, (constant_inside c.in-Constant.ensures).1))
 
 pub returns-in_err-number_of-in-Constant : goal.returns-in_err-number_of-in-Constant
 returns-in_err-number_of-in-Constant c =
