@@ -1,8 +1,9 @@
 -- Texts written one after the other are one text.
-use Rattle.std.proofs.Common.{◌≡◌, ℕ, ◌+◌, ◌-◌, ◌^◌, ◌<◌, ◌≤◌, List, [], ◌∷◌, ◌++◌, length, get_or, take, drop, decimal, sym, refl, ap, ◌∙◌, ap₂, append_assoc, append-nil, add-one, drop-cons, arith, length-append}
+use Rattle.std.proofs.Common.{◌≡◌, ℕ, ◌+◌, ◌-◌, ◌^◌, ◌<◌, ◌≤◌, List, [], ◌∷◌, ◌++◌, length, get_or, set, take, drop, decimal, sym, refl, ap, ◌∙◌, ap₂, append_assoc, append-nil, add-one, drop-cons, arith, length-append}
 use Rattle.std.proofs.Math.ListN.{drop_of_length-le}
 use lib.Seq.{paste}
 use borrow.Rule.Slice.PartMut.{put_mid}
+use Rattle.std.proofs.lemmas.List.{set_split}
 use Rattle.std.proofs.lemmas.Slice.{put_mid-paste, first_rest}
 use Rattle.std.proofs.lemmas.List.Edits.{paste_all, paste-paste}
 use Rattle.std.proofs.lemmas.Fmt.{length-decimal-le}
@@ -32,6 +33,10 @@ copied out part bytes at k e l =
 -- the same over the memory and the place as they were after the first text
 pub then : (out out' out'' : List ℕ) (at at' : ℕ) (s t : List ℕ) → at ≤ length out → out' ≡ over out at s → at' ≡ at + length s → out'' ≡ over out' at' t → out'' ≡ over out at (s ++ t)
 then out out' out'' at at' s t h e f g = g ∙ ap₂ (λ x n. over x n t) e f ∙ over_over out at s t h
+
+-- a byte written is a text of one byte
+pub byte_over : (out : List ℕ) (at x : ℕ) → at < length out → set out at x ≡ over out at (x ∷ [])
+byte_over out at x h = set_split out at x h ∙ ap (λ n. take at out ++ (x ∷ drop n out)) (sym (add-one at))
 
 -- a number of 64 bits takes at most 20 digits
 pub digits_short : (n : ℕ) → n < 2 ^ 64 → length (decimal n) ≤ 20
