@@ -38,7 +38,7 @@ impl Book {
     {
         Book {
             widths: FixedList::new(0),
-            rows: FixedList::new(Row::VACANT),
+            rows: FixedList::over(&[Row::VACANT; MAX_ROWS]),
         }
     }
 

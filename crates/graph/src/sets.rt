@@ -14,11 +14,14 @@ pub struct MemberSet {
 }
 
 impl MemberSet {
+    // The set of no number, as a constant.
+    pub(crate) const EMPTY: MemberSet = MemberSet { words: [0; 4] };
+
     /// The set of no number.
     pub fn empty() -> MemberSet
         ensures { (k : ℕ) → member result k ≡ false }
     {
-        MemberSet { words: [0; 4] }
+        MemberSet::EMPTY
     }
 
     /// The numbers below `end`, as far as they go up to 255.

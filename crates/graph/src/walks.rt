@@ -30,7 +30,7 @@ pub fn part<G: Graph>(graph: &G, selected: MemberSet, start: u8) -> MemberSet
 pub fn parts<G: Graph>(graph: &G, selected: MemberSet) -> Parts
     ensures { ListsParts (G.Graph.joins graph.now) (member selected) (length (items_of result)) (part_in (items_of result)) }
 {
-    let mut sets = FixedList::new(MemberSet::empty());
+    let mut sets = FixedList::over(&[MemberSet::EMPTY; 256]);
     let mut left = selected;
     // A whole part leaves the set at each turn, so no iterator goes over its members.
     while let Some(x) = left.lowest() {

@@ -68,6 +68,7 @@ impl<T: Copy, const N: usize> FixedList<T, N> {
     ghost use Rattle.lists.specs.Items.{items_of, rest_of};
 
     /// No item: each place holds the filler.
+    #[inline(always)]
     pub fn new(filler: T) -> FixedList<T, N>
         ensures items { items_of result ≡ [] }
         ensures rest { rest_of result ≡ replicate N filler }
@@ -78,7 +79,19 @@ impl<T: Copy, const N: usize> FixedList<T, N> {
         }
     }
 
+    // A constant that is lent is copied at once, where `new` fills place by place and moves what it filled.
+    /// No item: each place holds what the lent one does.
+    #[inline(always)]
+    pub fn over(places: &[T; N]) -> FixedList<T, N>
+        ensures items { items_of result ≡ [] }
+        ensures rest { rest_of result ≡ places.now }
+    {
+        let places = *places;
+        FixedList { places, len: 0 }
+    }
+
     /// The items, in order.
+    #[inline(always)]
     pub fn as_slice(&self) -> &[T]
         ensures items { result.now ≡ items_of self.now }
         ensures few { length result.now ≤ N }
@@ -87,6 +100,7 @@ impl<T: Copy, const N: usize> FixedList<T, N> {
     }
 
     /// Puts one more item behind the others. The caller has shown that there is room.
+    #[inline(always)]
     pub fn push(&mut self, item: T)
         requires { length (items_of self.old) < N }
         ensures items { items_of self.new ≡ items_of self.old ++ (item ∷ []) }
@@ -97,6 +111,7 @@ impl<T: Copy, const N: usize> FixedList<T, N> {
     }
 
     /// Puts an item in the place of one.
+    #[inline(always)]
     pub fn set(&mut self, number: usize, item: T)
         requires { number < length (items_of self.old) }
         ensures items { items_of self.new ≡ slice_set (items_of self.old) number item }

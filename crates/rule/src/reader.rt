@@ -29,6 +29,7 @@ impl<'a> Reader<'a> {
     }
 
     // The first place from here on that holds no space.
+    #[inline(always)]
     fn past_spaces(&self) -> usize
         ensures is { result ≡ past_spaces self.now }
         ensures inside { result ≤ length self.now.text.now }
@@ -38,6 +39,7 @@ impl<'a> Reader<'a> {
     }
 
     // Goes over spaces and a mark of the class. Where another byte or none stands, it is refused.
+    #[inline(always)]
     fn mark(&mut self, class: Class) -> Result<(), Refusal>
         ensures { Found self.old class result self.new }
     {
@@ -52,6 +54,7 @@ impl<'a> Reader<'a> {
     }
 
     // The token from here on, over spaces.
+    #[inline(always)]
     fn peek(&self) -> Token<'a>
         ensures { Begins self.now result }
     {
@@ -72,6 +75,7 @@ impl<'a> Reader<'a> {
     }
 
     // Goes over spaces and a token.
+    #[inline(always)]
     pub(super) fn next_token(&mut self) -> Token<'a>
         ensures { Lexed self.old result self.new }
     {

@@ -24,6 +24,7 @@ pub struct Atom {
 
 impl Atom {
     // The atom of a table, without terms.
+    #[inline(always)]
     pub(super) fn new(table: usize) -> Atom
         ensures { result ≡ empty table }
     {
@@ -65,6 +66,7 @@ impl Rule {
     }
 
     // A rule without atoms.
+    #[inline(always)]
     pub(super) fn new() -> Rule
         ensures { atoms_of result ≡ [] }
     {

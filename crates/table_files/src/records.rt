@@ -23,6 +23,7 @@ impl RecordPlaces<'_> {
     ghost use Rattle.table_files.specs.Places.{Found, Numbers, Pushed, RowRead, Width};
 
     // One more field.
+    #[inline(always)]
     fn push(&mut self, place: FieldPlace)
         requires { (self.old.fields + 1 < 2 ^ 64) × Within self.old.text.now place }
         ensures { Pushed self.old self.new place }
@@ -35,6 +36,7 @@ impl RecordPlaces<'_> {
 
     // The error is a field's number and no kind: `judge` makes the place of it.
     // The numbers of the first five fields, of which the last is a sureness; or the first field, from 1, that breaks its rule.
+    #[inline(always)]
     fn numbers(&self) -> Result<[u32; 5], usize>
         ensures { (values : Values) (rest : Bytes) (records : List Values) → Found values records self.now rest → length values ≤ 5 → Numbers values result }
     {
@@ -52,6 +54,7 @@ impl RecordPlaces<'_> {
     }
 
     // The numbers of a row; or the first field, from 1, that breaks its rule.
+    #[inline(always)]
     pub(super) fn row(self) -> Result<Row, usize>
         ensures { (values : Values) (rest : Bytes) (records : List Values) → Found values records self.entry rest → length values ≤ 5 → RowRead values result }
     {
@@ -100,6 +103,7 @@ impl<'a> Records<'a> {
     }
 
     // Goes to the end of the field that starts here, and answers its place.
+    #[inline(always)]
     fn field(&mut self) -> FieldPlace
         ensures text { self.new.text ≡ self.old.text }
         ensures start { result.start ≡ self.old.at }
@@ -116,6 +120,7 @@ impl<'a> Records<'a> {
     }
 
     // Goes to the next record, and answers where the fields of this one stand. A text that has ended says one record, of one blank field.
+    #[inline(always)]
     pub(super) fn record(&mut self) -> RecordPlaces<'a>
         ensures text { self.new.text ≡ self.old.text }
         ensures moves { self.old.at < length self.old.text.now → self.old.at < self.new.at }
@@ -175,6 +180,7 @@ impl<'a> Iterator for Records<'a> {
 
     ghost remaining = { λ s. at_most (left_of s) };
 
+    #[inline(always)]
     fn next(&mut self) -> Option<RecordPlaces<'a>> {
         if self.at == self.text.len() {
             None

@@ -1,8 +1,9 @@
 -- Texts written one after the other are one text.
-use Rattle.std.proofs.Common.{◌≡◌, ℕ, suc, ◌+◌, ◌-◌, ◌*◌, ◌^◌, ◌<◌, ◌≤◌, List, [], ◌∷◌, ◌++◌, length, get_or, take, drop, decimal, sym, refl, ap, ◌∙◌, ap₂, append_assoc, append-nil, add-zero, add-one, drop-cons, arith, length-append, take-append-drop}
+use Rattle.std.proofs.Common.{◌≡◌, ℕ, suc, ◌+◌, ◌-◌, ◌*◌, ◌^◌, ◌<◌, ◌≤◌, List, [], ◌∷◌, ◌++◌, length, get_or, set, take, drop, decimal, sym, refl, ap, ◌∙◌, ap₂, append_assoc, append-nil, add-zero, add-one, drop-cons, arith, length-append, take-append-drop}
 use Rattle.std.proofs.Math.ListN.{drop_of_length-le}
 use lib.Seq.{paste}
 use borrow.Rule.Slice.PartMut.{put_mid}
+use Rattle.std.proofs.lemmas.List.{set_split}
 use Rattle.std.proofs.lemmas.Slice.{put_mid-paste, first_rest}
 use Rattle.std.proofs.lemmas.List.Edits.{paste_all, paste-paste}
 use Rattle.std.proofs.lemmas.Fmt.{length-decimal-le}
@@ -51,6 +52,10 @@ wrote_more before at s out end t out' end' l h e f =
       bytes = then before out out' at end s t l h.bytes h.place e;
       place = omega (arith, h.place, length-append s t);
     }
+
+-- a byte written is a text of one byte
+pub byte_over : (out : List ℕ) (at x : ℕ) → at < length out → set out at x ≡ over out at (x ∷ [])
+byte_over out at x h = set_split out at x h ∙ ap (λ n. take at out ++ (x ∷ drop n out)) (sym (add-one at))
 
 -- a number of 64 bits takes at most 20 digits, and with a byte behind it 21
 pub digits_short : (n : ℕ) → n < 2 ^ 64 → length (decimal n) ≤ 20

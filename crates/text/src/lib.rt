@@ -2,6 +2,7 @@
 #![tactic(auto)]
 
 ghost use Rattle.std.specs.Prelude.{◌≡◌, ◌+◌, ◌≤◌, length, decimal};
+ghost use Rattle.text.specs.Over.{over};
 
 // No `fmt::Write`: a formatter may fail, and here each caller has shown that there is room.
 /// Writes texts into lent bytes, one after the other.
@@ -56,10 +57,8 @@ impl<'a> Writer<'a> {
         requires { self.old.at + length (decimal number) ≤ room_of self.old }
         ensures { Wrote self.old self.new (decimal number) }
     {
-        if number >= 10 {
-            self.put_number(number / 10);
-        }
-        self.put(&[b'0' + (number % 10) as u8]);
+        let Writer { out, at } = self;
+        *at = put_digits(number, out, *at);
     }
 
     /// Writes numbers in decimal digits, with a byte between two of them. The caller has shown that they fit.
@@ -76,4 +75,20 @@ impl<'a> Writer<'a> {
             self.put_number(*number);
         }
     }
+}
+
+// The place is handed on by value: kept in a writer, each digit would wait for it to be stored and read again.
+// Writes a number in decimal digits at a place, and answers the place behind them.
+fn put_digits(number: usize, out: &mut [u8], at: usize) -> usize
+    requires { at + length (decimal number) ≤ length out.old }
+    ensures ends { result ≡ at + length (decimal number) }
+    ensures wrote { out.new ≡ over out.old at (decimal number) }
+{
+    if number < 10 {
+        out[at] = b'0' + number as u8;
+        return at + 1;
+    }
+    let last = put_digits(number / 10, out, at);
+    out[last] = b'0' + (number % 10) as u8;
+    last + 1
 }

@@ -7,7 +7,7 @@ use Rattle.graph.proofs.Walking.{listing_start, listing_more, listing_less, room
 use Rattle.graph.proofs.walks.parts.Goals as goal
 
 pub loop-x-init : goal.loop-x-init
-loop-x-init g c = rw c.new-sets.ensures.items (listing_start _ _ _)
+loop-x-init g c = rw c.over-sets.ensures.items (listing_start _ _ _)
 
 pub push-requires : goal.push-requires
 push-requires g c = let room = room_left c.loop-x.invariant c.in-Some.x (search rules) c.in-Some.ensures.0 in search rules
