@@ -1,7 +1,9 @@
 -- The file of a table, row by row, and that it loads back.
-use Rattle.std.proofs.Common.{Bor, ◌≡◌, ℕ, zero, suc, ◌+◌, ◌-◌, ◌<◌, not, eqb, List, [], ◌∷◌, ◌++◌, map, length, get_or, drop, replicate, filter, sym, refl, ap, ◌∙◌, subst, ap₂, inr, arith, get_or-drop, eqb-true}
+use Rattle.std.proofs.Common.{Bor, ◌≡◌, ℕ, zero, suc, ◌+◌, ◌-◌, ◌<◌, ◌≤◌, not, eqb, List, [], ◌∷◌, ◌++◌, map, length, get_or, drop, replicate, filter, sym, refl, ap, ◌∙◌, subst, ap₂, inr, arith, get_or-drop, eqb-true}
+use lib.ListN.{length-map}
 use Rattle.std.specs.List.{flat_map, All}
 use Rattle.std.proofs.lemmas.List.Elements.{All-filter, All-map, All-weaker, filter_passes, recursion_from_All}
+use Rattle.std.proofs.lemmas.List.Filters.{length-filter_both}
 use Rattle.std.proofs.lemmas.List.{flat_map_more, map_push}
 use Rattle.std.proofs.lemmas.Bool.{and_parts}
 use Rattle.table_files.specs.declared.rows.Row.{Row as FileRow}
@@ -13,6 +15,7 @@ use Rattle.book.specs.Books.{ledger}
 use Rattle.book.specs.Files.{LoadsBack, rows_written, table_file_verdict, to_file, written?}
 use Rattle.book.specs.Inner.{Sure}
 use Rattle.book.specs.Ledgers.{LawfulRow, width_of}
+use Rattle.book.proofs.Keeping.{items_few, table_wide}
 use Rattle.book.proofs.Loading.{file_accepted}
 
 -- what is written of some rows
@@ -62,9 +65,15 @@ module _ (b : Book) (t : ℕ) (opened : t < length (ledger b).widths) where
 
   pub back : ReadsBack (width_of (ledger b) t) (rows_written t (ledger b).rows)
   back =
-      let w = b.wide t 0 opened in
+      let w = table_wide b t opened in
       written_reads_back (width_of (ledger b) t) (rows_written t (ledger b).rows) w.0 w.1
       (recursion_from_All _ _ (All-weaker (Good (ledger b).widths t) (RowOfWidth (width_of (ledger b) t)) (λ x p. p.0) (rows_written t (ledger b).rows) rows_good))
+
+  pub rows_few : length (rows_written t (ledger b).rows) ≤ 256
+  rows_few =
+      let m = length-map (filter (written? t) (ledger b).rows) to_file in
+      let k = length-filter_both (written? t) (λ r. not (written? t r)) (λ _. refl) (ledger b).rows in
+      omega (arith, items_few b.rows)
 
   pub loads_back : LoadsBack (ledger b) t
   loads_back m room few =

@@ -1,5 +1,5 @@
 -- The rows of a file, tested and added.
-use Rattle.std.proofs.Common.{◌≡◌, ℕ, zero, suc, ◌+◌, ◌-◌, ◌<◌, ◌≤◌, List, [], ◌∷◌, ◌++◌, map, length, get_or, drop, replicate, Err, sym, refl, ap, ◌∙◌, subst, ap₂, inl, inr, zero-add, arith, length-append, length-drop, get_or-drop, le-ltb, lt-ltb, le-leb}
+use Rattle.std.proofs.Common.{◌≡◌, ℕ, zero, suc, ◌+◌, ◌-◌, ◌<◌, ◌≤◌, List, [], ◌∷◌, ◌++◌, map, length, get_or, drop, replicate, Ok, Err, sym, refl, ap, ◌∙◌, subst, ap₂, inl, inr, zero-add, arith, length-append, length-drop, get_or-drop, le-ltb, lt-ltb, le-leb}
 use lib.ListN.{length-map}
 use Rattle.std.proofs.lemmas.Grind.{same_number_lists}
 use Rattle.std.proofs.lemmas.List.{get_or-replicate, length-replicate}
@@ -9,8 +9,9 @@ use Rattle.std.proofs.lemmas.List.Elements.{All-head, All-tail, All-map, All-wea
 use Rattle.table_files.specs.declared.fault.Fault.{Fault}
 use Rattle.table_files.specs.declared.rows.Row.{Row as FileRow}
 use Rattle.table_files.specs.declared.rows.Rows.{Rows}
-use Rattle.table_files.specs.Grammar.{Values}
-use Rattle.table_files.specs.Tables.{Ahead, LawfulRow as LawfulRecord, Reads, Table, Wrong, cell, row_of}
+use Rattle.table_files.specs.declared.TableFile.{TableFile}
+use Rattle.table_files.specs.Grammar.{CR, LF, Values, File, last, ended, more}
+use Rattle.table_files.specs.Tables.{Ahead, Answer, LawfulRow as LawfulRecord, Reads, Table, Wrong, cell, row_of}
 use Rattle.table_files.proofs.Faults.{answered}
 use Rattle.table_files.proofs.Reading.{one_reading}
 use Rattle.book.specs.declared.rows.Row.{Row}
@@ -86,6 +87,15 @@ file_full l w rows room sure within full =
     let first : 258 - length l.rows ≡ 2 + (256 - length l.rows) = omega arith in
     rw (lt-ltb (length l.widths) 8 room)
     (all_pass 2 (w + 1) rows _ sure ∙ rw (lt-leb (length l.rows + length rows) 256 full) (ap (λ (r : ℕ). refused (at 13 r 1)) first))
+
+-- a file has at most one record more than bytes
+few_records : {raw : List ℕ} {records : List Values} → File raw records → length records ≤ length raw + 1
+few_records (last r) = omega arith
+few_records (ended r) = omega arith
+few_records (more {raw} {values} {b} {rest} r f) = let h = few_records f in let l = length-append raw (CR ∷ LF ∷ b ∷ rest) in omega arith
+
+pub load_few : (text : List ℕ) (file : TableFile) (read : Answer text (Ok file)) → length read.1 ≤ 65536
+load_few text file read = let h = few_records read.2.1 in omega (arith, read.2.0)
 
 -- a text with a fault is no table
 apart : (text : List ℕ) (f : Fault) → Wrong text f → (header : Values) (rows : List Values) → Reads text header rows → Table header rows → ⊥

@@ -1,12 +1,12 @@
 -- The turns of the pass over the nodes, last to first, and what it answers.
-use Rattle.std.proofs.Common.{◌≡◌, ℕ, ◌<◌, ◌≤◌, List, length, get_or, drop, sym, refl, ap, ◌∙◌, subst, arith}
-use Rattle.tree.specs.Formulas.{row, Form}
+use Rattle.std.proofs.Common.{◌≡◌, ℕ, ◌<◌, ◌≤◌, List, length, get_or, drop, refl, ap, ◌∙◌, subst, arith}
+use Rattle.tree.specs.Formulas.{Form}
 use Rattle.tree.specs.declared.Kind.{Kind}
 use Rattle.tree.specs.declared.Node.{Node}
 use Rattle.tree.specs.declared.Node.TheVariants.{Vacant}
 use Rattle.tree.specs.Layout.{laid, parts}
 use Rattle.tree.specs.Passes.{Worked, Reads, folded, form_folded}
-use Rattle.tree.proofs.Nested.{not_vacant, at_node, count, first_part, no_part}
+use Rattle.tree.proofs.Nested.{none_vacant, count, first_part, no_part}
 
 module _ {V M : Type 0} (mean : V → M) (op : Kind → M → M → M) (reads : ℕ → V → Type 0) (ns : List Node) (entry : List V) where
   -- from a place on the values are worked out, and past the nodes they are as at entry
@@ -18,7 +18,7 @@ module _ {V M : Type 0} (mean : V → M) (op : Kind → M → M → M) (reads : 
   pub folding_vacant : (from at : ℕ) (vs : List V) → at < length ns → Folding from vs → get_or ns at Vacant ≡ Vacant → Folding at vs
   folding_vacant from at vs h p is = record {
     beyond = p.beyond;
-    worked = λ F leaf l. let (m, n) = at_node ns F l at Vacant h in absurd (not_vacant (get_or (parts F) at (row 0)) (sym n ∙ is));
+    worked = λ F leaf l. absurd (none_vacant ns (F, l) at h is);
   }
 
   pub folding_all : (n : ℕ) (vs : List V) → n ≤ 0 → Folding n vs → Folding 0 vs

@@ -1,5 +1,5 @@
 -- Rows in lists, and what a formula reads of a world.
-use Rattle.std.proofs.Common.{◌≡◌, ℕ, true, false, eqb, List, [], ◌∷◌, ◌++◌, refl, subst, ap₂, inl, inr}
+use Rattle.std.proofs.Common.{◌≡◌, ℕ, true, false, eqb, ◌⊎◌, List, [], ◌∷◌, ◌++◌, refl, subst, ap₂, inl, inr}
 use Rattle.std.proofs.lemmas.Bool.{eqb-true, eq-eqb, or_cases, or_left, or_right, cases_Bool, both_ways}
 use Rattle.tree.specs.Formulas.{World, Formula, row, under, connect, holds, rows, has, Distinct}
 
@@ -27,6 +27,14 @@ in_left [] ys r h = absurd (both_ways false refl h)
 pub in_right : (xs ys : List ℕ) (r : ℕ) → r ∈ has ys → r ∈ has (xs ++ ys)
 in_right [] ys r h = h
 in_right (x ∷ xs) ys r h = or_right (eqb r x) (has (xs ++ ys) r) (in_right xs ys r h)
+
+pub in_either : (xs ys : List ℕ) (r : ℕ) → r ∈ has (xs ++ ys) → (r ∈ has xs) ⊎ (r ∈ has ys)
+in_either [] ys r h = inr h
+in_either (x ∷ xs) ys r h = go (or_cases (eqb r x) (has (xs ++ ys) r) h) (in_either xs ys r)
+  where
+    go : (eqb r x ≡ true) ⊎ (r ∈ has (xs ++ ys)) → (r ∈ has (xs ++ ys) → (r ∈ has xs) ⊎ (r ∈ has ys)) → (r ∈ has (x ∷ xs)) ⊎ (r ∈ has ys)
+    go (inl e) ih = inl (or_left (eqb r x) (has xs r) e)
+    go (inr i) ih = elim (ih i) [ inl k ↦ inl (or_right (eqb r x) (has xs r) k) | inr k ↦ inr k ]
 
 -- what is distinct end to end is distinct in each part, and the parts share no row
 pub distinct_parts : (xs ys : List ℕ) → Distinct (xs ++ ys) → Distinct xs × Distinct ys × ((r : ℕ) → r ∈ has xs → r ∈ has ys → ⊥)

@@ -9,7 +9,7 @@ use Rattle.tree.specs.declared.Kind.TheVariants.{And, Or}
 use Rattle.tree.specs.declared.Node.{Node}
 use Rattle.tree.specs.declared.Node.TheVariants.{Vacant, Row, And as and_node, Or as or_node}
 use Rattle.tree.specs.Nodes.{size_of, inner, inner_of}
-use Rattle.tree.specs.Layout.{Stand, alone, among, spread, spans, node, parts, laid}
+use Rattle.tree.specs.Layout.{Stand, alone, among, spread, spans, node, parts, laid, Lays}
 use Rattle.tree.proofs.Spreads.{with_own, leads, spans_under}
 
 -- what stands at a place of the list is followed by all below it
@@ -130,6 +130,9 @@ pub at_node : (ns : List Node) (F : Form) → ns ≡ laid F → (c : ℕ) (d : N
 at_node ns F e c d h =
     let k : c < length (parts F) = subst (λ n. c < n) (ap length e ∙ length-map (parts F) node) h in
     (k, ap (λ xs. get_or xs c d) e ∙ get_or-map node (parts F) c (row 0) d k)
+
+pub none_vacant : (ns : List Node) → Lays ns → (at : ℕ) → at < length ns → get_or ns at Vacant ≡ Vacant → ⊥
+none_vacant ns (F, l) at h e = not_vacant (get_or (parts F) at (row 0)) (sym (at_node ns F l at Vacant h).1 ∙ e)
 
 pub count : (ns : List Node) (F : Form) → ns ≡ laid F → length ns ≡ length (parts F)
 count ns F e = ap length e ∙ length-map (parts F) node

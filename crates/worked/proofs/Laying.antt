@@ -5,7 +5,7 @@ use Rattle.std.proofs.lemmas.List.{length-map, take_more, map_push}
 use Rattle.std.proofs.lemmas.Bool.{leb-true, and_parts}
 use Rattle.tree.specs.declared.Kind.{Kind}
 use Rattle.tree.specs.declared.Node.{Node}
-use Rattle.tree.specs.Formulas.{row, rows, form}
+use Rattle.tree.specs.Formulas.{row, rows, Form, form}
 use Rattle.tree.specs.Nodes.{written}
 use Rattle.tree.specs.Layout.{spans, node, nodes_of, laid, Lays}
 use Rattle.tree.specs.Trees.{is_a, lowest, Ascending, Children, LaidBetween, over}
@@ -32,6 +32,9 @@ row_more m now next at i end end' rs h l p q e =
     (between_more m now next at end end' (map row (take i rs)) (row (get_or rs i 0)) h p q e)
 
 module _ (k : Kind) (rs : List ℕ) (two : 2 ≤ length rs) (order : Ascending rs) where
+  abbrev pub rows_form : Form
+  rows_form = form (over k (map row rs))
+
   own_rows : (xs : List ℕ) → flat_map rows (map row xs) ≡ xs
   own_rows [] = refl
   own_rows (x ∷ xs) = ap (λ ys. x ∷ ys) (own_rows xs)
@@ -43,12 +46,15 @@ module _ (k : Kind) (rs : List ℕ) (two : 2 ≤ length rs) (order : Ascending r
   pub nodes_length : length (nodes_of (over k (map row rs))) ≡ 1 + length rs
   nodes_length = omega (arith, length-map (spans (over k (map row rs))) node, ap length (is_over k (map row rs) (rows_children k rs two order)).spanning, spans_length rs)
 
+  pub rows_laid : (m now : List Node) (n : ℕ) → now ≡ written m 0 (nodes_of (over k (map row rs))) → n ≡ 1 + length rs → take n now ≡ laid rows_form
+  rows_laid m now n e l = subst (λ j. take j now ≡ laid rows_form) (nodes_length ∙ sym l) (laid_first m now (over k (map row rs)) e)
+
+  pub rows_placed : (ns : List Node) → ns ≡ laid rows_form → (n : ℕ) → AllByRecursion (λ r. r < n) rs → Placed ns n
+  rows_placed ns e n a = placed ns rows_form e n (rw ((is_over k (map row rs) (rows_children k rs two order)).naming, own_rows rs) a)
+
   -- laid out from the first place on, the rows are a form, and have places in a list that is longer than each
-  pub rows_laid : (m now : List Node) (n b : ℕ) → now ≡ written m 0 (nodes_of (over k (map row rs))) → n ≡ 1 + length rs → AllByRecursion (λ r. r < b) rs → Lays (take n now) × Placed (take n now) b
-  rows_laid m now n b e l a =
-      let f = form (over k (map row rs)) in
-      let s : take n now ≡ laid f = subst (λ j. take j now ≡ laid f) (nodes_length ∙ sym l) (laid_first m now (over k (map row rs)) e) in
-      ((f, s), placed (take n now) f s b (rw ((is_over k (map row rs) (rows_children k rs two order)).naming, own_rows rs) a))
+  pub rows_first : (m now : List Node) (n b : ℕ) → now ≡ written m 0 (nodes_of (over k (map row rs))) → n ≡ 1 + length rs → AllByRecursion (λ r. r < b) rs → Lays (take n now) × Placed (take n now) b
+  rows_first m now n b e l a = let s = rows_laid m now n e l in ((rows_form, s), rows_placed (take n now) s b a)
 
 -- numbers that ascend step by step
 abbrev ascends : ℕ → List ℕ → Bool
