@@ -108,7 +108,7 @@ marks = Name ∷ Open ∷ Close ∷ Colon ∷ []
 abbrev pub state_at : ℕ → State
 state_at i = get_or (State.start ∷ State.named ∷ State.opened ∷ State.closed ∷ []) i State.colon
 
-past_mark : (i : ℕ) → i < 4 → (before : Reader) (r : Result (Unit {0}) Refusal) (after : Reader) → Found before (get_or marks i Blank) r after
+pub past_mark : (i : ℕ) → i < 4 → (before : Reader) (r : Result (Unit {0}) Refusal) (after : Reader) → Found before (get_or marks i Blank) r after
     → Passes before (state_at i) (state_at (i + 1)) r after
 past_mark zero l = passes State.start State.named Name (λ c b. refl) refl refl
 past_mark (suc zero) l = passes State.named State.opened Open (λ c b. refl) refl refl
@@ -122,7 +122,7 @@ pub record Marked (before : Reader) (i : ℕ) (now : Reader) : Type 0 where
   pub answers : answer_of before State.start ≡ answer_of now (state_at i)
 
 -- the dash, right behind the colon
-past_dash : (xs : List ℕ) (n : ℕ) → starts_with eqb xs (45 ∷ []) ≡ true → scan State.colon n xs ≡ scan (State.atom []) (n + 1) (drop 1 xs)
+pub past_dash : (xs : List ℕ) (n : ℕ) → starts_with eqb xs (45 ∷ []) ≡ true → scan State.colon n xs ≡ scan (State.atom []) (n + 1) (drop 1 xs)
 past_dash [] n e = absurd (true≢false (sym e))
 past_dash (b ∷ xs) n e = ap (λ c. onward (next State.colon (class c) c) n xs) (sym (eqb-true 45 b (and_parts (eqb 45 b) true e).0))
 
