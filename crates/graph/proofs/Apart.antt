@@ -1,11 +1,11 @@
 -- What a list of parts tells: one part is a connected set, and two or more fall apart. Assumes nothing.
-use Rattle.std.proofs.Common.{◌≡◌, ℕ, ◌<◌, ◌≤◌, Bool, true, false, not, ◌&&◌, ◌≢◌, inl, inr, ap, ap₂, ◌∙◌, arith}
+use Rattle.std.proofs.Common.{◌≡◌, ℕ, ◌<◌, ◌≤◌, Bool, true, false, ◌≢◌, inl, inr, arith}
 use Rattle.std.proofs.lemmas.Bool.{false_from_ne_true, cases_eq, cases_order, cases_Bool, both_ways}
 use Rattle.graph.specs.Answers.{FallsCoapart}
 use Rattle.graph.specs.Graphs.{IsGraph, complement}
 use Rattle.graph.specs.Laws.{co_from, complement_graph}
 use Rattle.graph.specs.Members.{tally}
-use Rattle.graph.specs.Splitting.{Reaches, onward, Connected, PartOf, ListsParts, FallsApart}
+use Rattle.graph.specs.Splitting.{Reaches, onward, Connected, ListsParts, FallsApart}
 use Rattle.graph.proofs.Paths.{reached_in, and_then, back}
 use Rattle.graph.proofs.Tallies.{tally_less}
 
@@ -70,29 +70,6 @@ module _ {size : ℕ} {joined : ℕ → ℕ → Bool} (G : IsGraph size joined) 
           let small = among x m in
           let few = G.few in
           tally_less (part i) set x 256 (λ y p. from_set i y l p) (omega arith) (false_from_ne_true _ (λ p. o.2 (once i j x l o.1 p t.1.0))) m
-
-  -- parts of a set that is not connected are two or more
-  pub two_parts : ¬ Connected joined set → 2 ≤ count
-  two_parts n = elim (cases_order count 1) [
-    | inl e ↦ absurd (n (one_part (omega arith)))
-    | inr (inl b) ↦ absurd (n (one_part (omega arith)))
-    | inr (inr b) ↦ omega arith
-  ]
-
--- what is left of a set besides the part of one number of it: nothing, exactly when the set is connected
-module _ {size : ℕ} {joined : ℕ → ℕ → Bool} (G : IsGraph size joined) {set part left : ℕ → Bool} {x : ℕ} (P : PartOf joined set x part)
-    (e : (y : ℕ) → left y ≡ (set y && not (part y))) where
-  pub connected_whole : ((y : ℕ) → left y ≡ false) → Connected joined set
-  connected_whole none y z my mz = and_then (back G (reached y my)) (reached z mz)
-    where
-      reached : (y : ℕ) → set y ≡ true → Reaches joined set x y
-      reached y my = (P y).0 (elim (cases_Bool (part y)) [ inl t ↦ t | inr f ↦ absurd (both_ways _ (none y) (e y ∙ ap₂ (λ a b. a && not b) my f)) ])
-
-  pub whole_connected : set x ≡ true → Connected joined set → (y : ℕ) → left y ≡ false
-  whole_connected mx C y = elim (cases_Bool (set y)) [
-    | inl my ↦ e y ∙ ap₂ (λ a b. a && not b) my ((P y).1 (C x y mx my))
-    | inr f ↦ e y ∙ ap (λ a. a && not (part y)) f
-  ]
 
 -- in the complement: members of different parts are joined in the graph
 pub coapart : {size : ℕ} {joined : ℕ → ℕ → Bool} → IsGraph size joined → {set : ℕ → Bool} {count : ℕ} {part : ℕ → ℕ → Bool} →

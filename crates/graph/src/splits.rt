@@ -1,15 +1,15 @@
 //! One split of a selected set, by connected parts of the graph or of the complement.
-ghost use Rattle.std.specs.Prelude.{◌≡◌, ℕ, ◌<◌, true, Decides};
+ghost use Rattle.std.specs.Prelude.{◌≡◌, ℕ, ◌<◌, true};
 ghost use Rattle.graph.specs.Graphs.{members_in};
 ghost use Rattle.graph.specs.Members.{member};
-ghost use Rattle.graph.specs.Answers.{Splits};
-ghost use Rattle.graph.specs.Splitting.{Connected, SplitsIffNoChain};
+ghost use Rattle.graph.specs.Answers.{FallsApartOrNot, Splits};
+ghost use Rattle.graph.specs.Splitting.{SplitsIffNoChain};
 
-use crate::answers::Split;
+use crate::answers::{Parts, Split};
 use crate::chains::chain;
 use crate::graphs::{Complement, Graph};
 use crate::sets::MemberSet;
-use crate::walks::{part, parts};
+use crate::walks::parts;
 
 // A graph and a selected set are two parameters, since one graph is asked about many sets and no fact ties the two.
 
@@ -34,20 +34,24 @@ fn split_members<G: Graph>(graph: &G, set: MemberSet) -> Split
     if others.is_empty() {
         return Split::Single(first);
     }
-    if !is_connected(graph, set, first) {
-        return Split::InGraph(parts(graph, set));
+    if let Some(parts) = two_or_more(graph, set) {
+        return Split::InGraph(parts);
     }
-    let complement = Complement { of: graph };
-    if !is_connected(&complement, set, first) {
-        return Split::InComplement(parts(&complement, set));
+    if let Some(parts) = two_or_more(&Complement { of: graph }, set) {
+        return Split::InComplement(parts);
     }
     Split::Stuck(chain(graph, set).unwrap())
 }
 
-// Whether a set is connected, by one number of it: then the part of that number is all of it.
-fn is_connected<G: Graph>(graph: &G, set: MemberSet, first: u8) -> bool
-    requires { member set first ≡ true }
-    ensures { Decides result (Connected (G.Graph.joins graph.now) (member set)) }
+// The connected parts of a set of members, or none where it is connected.
+#[inline(always)]
+fn two_or_more<G: Graph>(graph: &G, set: MemberSet) -> Option<Parts>
+    requires { (x : ℕ) → member set x ≡ true → x < G.Graph.members graph.now }
+    ensures { FallsApartOrNot (G.Graph.joins graph.now) (member set) result }
 {
-    set.difference(part(graph, set, first)).is_empty()
+    let parts = parts(graph, set);
+    if parts.as_slice().len() < 2 {
+        return None;
+    }
+    Some(parts)
 }

@@ -27,6 +27,7 @@ pub fn part<G: Graph>(graph: &G, selected: MemberSet, start: u8) -> MemberSet
 }
 
 /// All connected parts of the selected set, each once, in the order of their lowest numbers.
+#[inline(always)]
 pub fn parts<G: Graph>(graph: &G, selected: MemberSet) -> Parts
     ensures { ListsParts (G.Graph.joins graph.now) (member selected) (length (items_of result)) (part_in (items_of result)) }
 {
